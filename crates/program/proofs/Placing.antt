@@ -1,0 +1,198 @@
+-- Refusal number 2 by the definitions, and the pass from the last row back that finds it. Assumes nothing.
+use mathlib.Core.Bool.{Bool, true, false, cond}
+use mathlib.Core.List.{List, [], _∷_, List·Memᴰ, List·Memᴰ·head, List·Memᴰ·tail, List·Memᴰ·not-nil}
+use mathlib.Core.Logic.{_⊎_, inl, inr, ⊎-elim, _≢_}
+use mathlib.Core.Path.{_≡_, refl, sym, ap, subst, _∙_}
+use Prim.Native.Nat.{ℕ, zero, suc, _+_, _-_, _<_, _≤_}
+use lib.Dec.{ltb, leb}
+use lib.ListN.{length, getD, set, replicate, length-set, getD-replicate}
+use lib.Seq.{getD-set-same, getD-set-other}
+use native.Mathlib.Omega.{arith}
+use Rattle.std.proofs.shelf.Tests.{true≢false, false≢true, both-ways, cond-true, cond-false, ltb-true, ltb-false, cases-bool, cases-eq, cases-lt}
+use Rattle.std.specs.Options.{isSome, mapped, orOther}
+use Rattle.std.specs.declared.option.Option.{Option}
+use Rattle.std.specs.declared.option.Option.the-variants.{Some, None}
+use Rattle.std.specs.shelf.Lists.{All}
+use Rattle.std.proofs.shelf.Elements.{all-weaker}
+use Rattle.std.proofs.shelf.Lists.{getD-past}
+use Rattle.semantics.specs.Program.{fits}
+use Rattle.semantics.proofs.Members.{all-member}
+use Rattle.program.specs.Row.{named, own-place, row-in}
+use Rattle.program.specs.Rows.{rows, program-in, Valid}
+use Rattle.program.specs.Reach.{Reaches, itself, through, reached, marked}
+use Rattle.program.specs.Validation.{first-said, absent, row-place-refusal, places-refusal}
+use Rattle.program.specs.declared.row.Row.{Row}
+use Rattle.program.specs.declared.refusal.Refusal.{Refusal}
+use Rattle.program.specs.declared.refusal.Refusal.the-variants.{NoSuchPlace, TooManyPlaces}
+use Rattle.program.proofs.Reaching.{reaches-back, member-earlier, reached-decides, last-row}
+use Rattle.program.proofs.Refusing.{said-last, said-none}
+use Rattle.program.proofs.Shape.{Shape, shape-of}
+
+none-some : (r : Refusal) → None ≡ Some r → ⊥
+none-some r e = true≢false (sym (ap isSome e))
+
+-- a table with some rows marked
+length-marked : (t : List Bool) (js : List ℕ) → length (marked t js) ≡ length t
+length-marked t [] = refl
+length-marked t (j ∷ js) = length-marked (set t j true) js ∙ length-set t j true
+
+set-keeps : (t : List Bool) (j k : ℕ) → j < length t → getD t k false ≡ true → getD (set t j true) k false ≡ true
+set-keeps t j k l h =
+    ⊎-elim (λ e. subst (λ (x : ℕ). getD (set t j true) x false ≡ true) (sym e) (getD-set-same t j true false l)) (λ ne. getD-set-other t j k true false ne ∙ h) (cases-eq k j)
+
+marked-keeps : (m : ℕ) (t : List Bool) (js : List ℕ) (k : ℕ) → length t ≡ m → All (λ j. j < m) js → getD t k false ≡ true → getD (marked t js) k false ≡ true
+marked-keeps m t [] k e l h = h
+marked-keeps m t (j ∷ js) k e l h = marked-keeps m (set t j true) js k (length-set t j true ∙ e) (l .1) (set-keeps t j k (omega (arith, l .0)) h)
+
+marked-has : (m : ℕ) (t : List Bool) {k : ℕ} (js : List ℕ) → length t ≡ m → All (λ j. j < m) js → List·Memᴰ k js → getD (marked t js) k false ≡ true
+marked-has m t [] e l h = absurd (List·Memᴰ·not-nil h)
+marked-has m t {k} (j ∷ js) e l (List·Memᴰ·head i) =
+    marked-keeps m (set t j true) js k (length-set t j true ∙ e) (l .1) (subst (λ (x : ℕ). getD (set t j true) x false ≡ true) (sym i) (getD-set-same t j true false (omega (arith, l .0))))
+marked-has m t (j ∷ js) e l (List·Memᴰ·tail h) = marked-has m (set t j true) js (length-set t j true ∙ e) (l .1) h
+
+marked-only : (t : List Bool) (js : List ℕ) (k : ℕ) → getD (marked t js) k false ≡ true → (getD t k false ≡ true) ⊎ List·Memᴰ k js
+marked-only t [] k h = inl h
+marked-only t (j ∷ js) k h =
+    ⊎-elim (λ was. ⊎-elim (λ e. inr (List·Memᴰ·head e)) (λ ne. inl (sym (getD-set-other t j k true false ne) ∙ was)) (cases-eq k j)) (λ m. inr (List·Memᴰ·tail m)) (marked-only (set t j true) js k h)
+
+-- what a reached row names is reached
+reaches-on : (xs : List ℕ) (j k : ℕ) {i : ℕ} → Reaches xs j i → List·Memᴰ k (named (row-in xs j)) → Reaches xs k i
+reaches-on xs j k (itself e) m = through k (subst (λ (x : ℕ). List·Memᴰ k (named (row-in xs x))) e m) (itself refl)
+reaches-on xs j k (through l ml r) m = through l ml (reaches-on xs j k r m)
+
+or-none : (a b : Option Refusal) → orOther a b ≡ None → (a ≡ None) × (b ≡ None)
+or-none None b e = (refl, e)
+or-none (Some x) b e = absurd (none-some x (sym e))
+
+above : (i j : ℕ) → i ≤ j → (j ≡ i → ⊥) → i + 1 ≤ j
+above i j h ne = ⊎-elim (λ l. omega arith) (λ l. absurd (ne (omega arith))) (cases-lt i j)
+
+or-nothing : (o : Option Refusal) → orOther o None ≡ o
+or-nothing None = refl
+or-nothing (Some x) = refl
+
+or-together : (a b c : Option Refusal) → orOther (orOther a b) c ≡ orOther a (orOther b c)
+or-together None b c = refl
+or-together (Some x) b c = refl
+
+-- the rows from i up are passed: what is marked is reached, what passed rows name is marked, and found is what is said of passed rows
+pub record Passed (xs : List ℕ) (n i : ℕ) (t : List Bool) (found : Option Refusal) : Type 0 where
+  pub long : length t ≡ 256
+  pub sound : (k : ℕ) → getD t k false ≡ true → Reaches xs k (rows xs - 1)
+  pub top : getD t (rows xs - 1) false ≡ true
+  pub complete : (j k : ℕ) → i ≤ j → j < rows xs → getD t j false ≡ true → List·Memᴰ k (named (row-in xs j)) → getD t k false ≡ true
+  pub rest : first-said (row-place-refusal xs n) (rows xs) ≡ orOther (first-said (row-place-refusal xs n) i) found
+
+module _ (xs : List ℕ) (n : ℕ) (v : Valid xs) where
+  unmarked : (k : ℕ) → getD (replicate 256 false) k false ≡ false
+  unmarked k = ⊎-elim (λ l. getD-replicate 256 k false false l) (λ l. getD-past (replicate 256 false) k false l) (cases-lt k 256)
+
+  -- before the pass
+  pub none-passed : Passed xs n (rows xs) (set (replicate 256 false) (rows xs - 1) true) None
+  none-passed =
+      let s : Shape xs = shape-of xs (v .shape) in
+      record {
+        long = length-set (replicate 256 false) (rows xs - 1) true;
+        sound =
+          λ k h.
+              ⊎-elim itself (λ ne. absurd (both-ways (getD (replicate 256 false) k false) (unmarked k) (sym (getD-set-other (replicate 256 false) (rows xs - 1) k true false ne) ∙ h)))
+              (cases-eq k (rows xs - 1));
+        top = getD-set-same (replicate 256 false) (rows xs - 1) true false (omega arith);
+        complete = λ j k a b h m. absurd (omega arith);
+        rest = sym (or-nothing (first-said (row-place-refusal xs n) (rows xs)));
+      }
+
+  module _ (m : ℕ) (t : List Bool) (found : Option Refusal) (pos : 0 < m) (in′ : m ≤ rows xs) (q : Passed xs n m t found) where
+    -- the row that is looked at now
+    abbrev i : ℕ
+    i = m - 1
+
+    l : i < rows xs
+    l = omega arith
+
+    p : Passed xs n (i + 1) t found
+    p = let e : m ≡ i + 1 = omega arith in subst (λ (k : ℕ). Passed xs n k t found) e q
+
+    -- a row that is reached is marked once the rows above it are passed
+    marked-before : {a : ℕ} → a < rows xs → i ≤ a → getD t a false ≡ true → Reaches xs i a → getD t i false ≡ true
+    marked-before {a} w b h (itself e) = subst (λ (x : ℕ). getD t x false ≡ true) (sym e) h
+    marked-before {a} w b h (through j mj r) =
+        let g : j < a = member-earlier xs (rows xs) (v .order) a j w mj in
+        let k : i ≤ j = reaches-back xs (rows xs) (v .order) i (omega arith) r in
+        marked-before {a = j} (omega arith) k (p .complete a j (omega arith) w h mj) r
+
+    -- the table's flag is the definition's
+    flag : (b : Bool) → b ≡ getD t i false → reached xs i ≡ b
+    flag true e = reached-decides xs v i .1 (p .sound i (sym e))
+    flag false e =
+        ⊎-elim
+        (λ (h : reached xs i ≡ true).
+            let some : rows xs - 1 < rows xs = last-row xs v in
+            absurd (both-ways (getD t i false) (sym e) (marked-before some (omega (arith, l)) (p .top) (reached-decides xs v i .0 h))))
+        (λ h. h) (cases-bool (reached xs i))
+
+    said : (o : Option Refusal) → o ≡ row-place-refusal xs n i → first-said (row-place-refusal xs n) (rows xs) ≡ orOther (first-said (row-place-refusal xs n) i) (orOther o found)
+    said o e =
+        p .rest ∙ ap (λ s. orOther s found) (said-last (row-place-refusal xs n) i)
+        ∙ or-together (first-said (row-place-refusal xs n) i) (row-place-refusal xs n i) found
+        ∙ ap (λ s. orOther (first-said (row-place-refusal xs n) i) (orOther s found)) (sym e)
+
+    -- a row that isn't reached
+    pub pass-unreached : getD t i false ≡ false → Passed xs n i t found
+    unfolding row-place-refusal
+    pass-unreached h =
+        record {
+          long = p .long;
+          sound = p .sound;
+          top = p .top;
+          complete =
+            λ j k a b g m.
+                ⊎-elim (λ e. absurd (both-ways (getD t i false) h (subst (λ (x : ℕ). getD t x false ≡ true) e g))) (λ ne. p .complete j k (above i j a ne) b g m) (cases-eq j i);
+          rest = said None (sym (cond-false (reached xs i) _ _ (flag false (sym h))));
+        }
+
+    -- a row that is
+    pub pass-reached : (r : Row) (o : Option Refusal) → getD t i false ≡ true → r ≡ row-in xs i → All (λ j. j < i) (named r) → o ≡ absent n i (own-place r) → Passed xs n i (marked t (named r)) (orOther o found)
+    unfolding row-place-refusal
+    pass-reached r o h e before is =
+        let s : Shape xs = shape-of xs (v .shape) in
+        let within : All (λ j. j < 256) (named r) = all-weaker (λ j. j < i) (λ j. j < 256) (λ j (g : j < i). omega arith) (named r) before in
+        record {
+          long = length-marked t (named r) ∙ p .long;
+          sound = λ k g. ⊎-elim (p .sound k) (λ m. reaches-on xs i k (p .sound i h) (subst (λ (x : Row). List·Memᴰ k (named x)) e m)) (marked-only t (named r) k g);
+          top = marked-keeps 256 t (named r) (rows xs - 1) (p .long) within (p .top);
+          complete =
+            λ j k a b g m.
+                ⊎-elim (λ same. marked-has 256 t (named r) (p .long) within (subst (λ (x : Row). List·Memᴰ k (named x)) (ap (row-in xs) same ∙ sym e) m))
+                (λ ne.
+                    ⊎-elim (λ was. marked-keeps 256 t (named r) k (p .long) within (p .complete j k (above i j a ne) b was m))
+                    (λ mj. let g : j < i = all-member (λ j. j < i) (named r) before mj in absurd (omega arith))
+                    (marked-only t (named r) j g))
+                (cases-eq j i);
+          rest = said o (is ∙ ap (λ (x : Row). absent n i (own-place x)) e ∙ sym (cond-true (reached xs i) _ _ (flag true (sym h))));
+        }
+
+  -- after the pass
+  pub all-passed : (t : List Bool) (found o : Option Refusal) → Passed xs n 0 t found → o ≡ cond (leb n 1024) None (Some (TooManyPlaces n 1024)) → orOther found o ≡ places-refusal xs n
+  unfolding places-refusal
+  all-passed t found o p e =
+      (λ i. orOther (sym (p .rest ∙ ap (λ s. orOther s found) (said-none (row-place-refusal xs n))) i) (e i))
+
+-- a program that no row is refused of for its place fits
+said-none-at : (f : ℕ → Option Refusal) (n i : ℕ) → first-said f n ≡ None → i < n → f i ≡ None
+unfolding first-said
+said-none-at f zero i e l = absurd (omega arith)
+said-none-at f (suc n) i e l =
+    let p = or-none (first-said f n) (f n) e in
+    ⊎-elim (λ h. said-none-at f n i (p .0) h) (λ h. let z : n ≡ i = omega arith in subst (λ (k : ℕ). f k ≡ None) z (p .1)) (cases-lt i n)
+
+-- a scan that says something says it of a row, and nothing of the rows before
+said-some-at : (f : ℕ → Option Refusal) (n : ℕ) (r : Refusal) → first-said f n ≡ Some r → (i : ℕ) × (i < n) × (f i ≡ Some r) × (first-said f i ≡ None)
+unfolding first-said
+said-some-at f zero r e = absurd (none-some r e)
+said-some-at f (suc n) r e = go (first-said f n) refl (said-some-at f n r)
+  where
+    go : (o : Option Refusal) → first-said f n ≡ o → (first-said f n ≡ Some r → (i : ℕ) × (i < n) × (f i ≡ Some r) × (first-said f i ≡ None)) →
+        (i : ℕ) × (i < suc n) × (f i ≡ Some r) × (first-said f i ≡ None)
+    go None h before = (n, omega arith, sym (ap (λ o. orOther o (f n)) h) ∙ e, h)
+    go (Some q) h before = let (i, l, a, b) = before (h ∙ sym (ap (λ o. orOther o (f n)) h) ∙ e) in (i, omega arith, a, b)

@@ -1,0 +1,159 @@
+-- Which refusal the definitions give: how a scan goes on, and when it says nothing. Assumes nothing.
+use mathlib.Core.Bool.{Bool, true, false, not, _&&_, _||_, cond}
+use mathlib.Core.List.{List, [], _∷_}
+use mathlib.Core.Logic.{_⊎_, inl, inr, ⊎-elim}
+use mathlib.Core.Path.{_≡_, refl, sym, ap, subst, _∙_}
+use Prim.Native.Nat.{ℕ, zero, suc, _+_, _*_, _/_, _%_, _<_, _≤_}
+use lib.Dec.{ltb, leb, eqb}
+use lib.ListN.{length}
+use native.Mathlib.Numerals.{add-one}
+use native.Mathlib.Omega.{arith}
+use Rattle.std.proofs.shelf.Tests.{true≢false, false≢true, cond-true, cond-false, eq-eqb, ne-eqb, eqb-true, le-leb, lt-leb, leb-true, and-parts, not-false, not-from-false, cases-lt}
+use Rattle.std.specs.Options.{isSome, mapped, orOther}
+use Rattle.std.specs.declared.option.Option.{Option}
+use Rattle.std.specs.declared.option.Option.the-variants.{Some, None}
+use Rattle.program.specs.Row.{kind, named, row-in}
+use Rattle.program.specs.Rows.{rows, row-ok, rows-ok, Valid}
+use Rattle.program.specs.Validation.{rows-taken, first-said, first-not-earlier, row-refusal, rows-refusal}
+use Rattle.program.specs.declared.row.Row.{Row}
+use Rattle.program.specs.declared.refusal.Refusal.{Refusal}
+use Rattle.program.specs.declared.refusal.Refusal.the-variants.{CutShort, NoRows, TooManyRows, UnknownKind, NotEarlier}
+use Rattle.program.proofs.Earlier.{earlier, row-ok-is}
+use Rattle.program.proofs.Shape.{Shape, rows-is, shaped-from}
+
+at-end : (i n : ℕ) → i ≤ suc n → (i ≡ suc n) ⊎ (i ≤ n)
+at-end i n h = ⊎-elim (λ l. inr (omega arith)) (λ l. inl (omega arith)) (cases-lt i (suc n))
+
+-- a scan that said something says it to the end
+pub said-on : (f : ℕ → Option Refusal) (r : Refusal) (i n : ℕ) → first-said f i ≡ Some r → i ≤ n → first-said f n ≡ Some r
+unfolding first-said
+said-on f r i zero e h = let z : i ≡ 0 = omega arith in subst (λ (k : ℕ). first-said f k ≡ Some r) z e
+said-on f r i (suc n) e h =
+    ⊎-elim (λ z. subst (λ (k : ℕ). first-said f k ≡ Some r) z e) (λ l. ap (λ o. orOther o (f n)) (said-on f r i n e l)) (at-end i n h)
+
+-- a row of which something is said, where nothing was said before it, is what the scan says
+pub said-here : (f : ℕ → Option Refusal) (i n : ℕ) (o : Option Refusal) → first-said f i ≡ None → o ≡ f i → isSome o ≡ true → i < n → o ≡ first-said f n
+unfolding first-said
+said-here f i n None e here some l = absurd (false≢true some)
+said-here f i n (Some r) e here some l = sym (said-on f r (suc i) n (ap (λ o. orOther o (f i)) e ∙ sym here) l)
+
+-- a row of which nothing is said
+pub said-nothing : (f : ℕ → Option Refusal) (i : ℕ) (o : Option Refusal) → first-said f i ≡ None → o ≡ f i → isSome o ≡ false → first-said f (i + 1) ≡ None
+unfolding first-said
+said-nothing f i None e here none = ap (first-said f) (add-one i) ∙ ap (λ o. orOther o (f i)) e ∙ sym here
+said-nothing f i (Some r) e here none = absurd (true≢false none)
+
+-- a scan by its last row
+pub said-last : (f : ℕ → Option Refusal) (i : ℕ) → first-said f (i + 1) ≡ orOther (first-said f i) (f i)
+unfolding first-said
+said-last f i = ap (first-said f) (add-one i)
+
+pub said-none : (f : ℕ → Option Refusal) → first-said f 0 ≡ None
+unfolding first-said
+said-none f = refl
+
+some-of-either : {A : Type 0} (o p : Option A) → isSome (orOther o p) ≡ (isSome o || isSome p)
+some-of-either None p = refl
+some-of-either (Some x) p = refl
+
+not-both : (a b : Bool) → (not b || not a) ≡ not (a && b)
+not-both true true = refl
+not-both true false = refl
+not-both false true = refl
+not-both false false = refl
+
+some-by : {A : Type 0} (t e : Bool) (o : Option A) (x : A) → isSome o ≡ not e → isSome (cond t o (Some x)) ≡ not (t && e)
+some-by true e o x h = h
+some-by false e o x h = refl
+
+some-mapped : {A B : Type 0} (f : A → B) (o : Option A) → isSome (mapped f o) ≡ isSome o
+some-mapped f None = refl
+some-mapped f (Some x) = refl
+
+later-some : (i : ℕ) (js : List ℕ) → isSome (first-not-earlier i js) ≡ not (earlier i js)
+later-some i [] = refl
+later-some i (j ∷ js) = some-by (ltb j i) (earlier i js) (first-not-earlier i js) j (later-some i js)
+
+-- something is said of a row exactly where it isn't right
+pub row-refusal-some : (xs : List ℕ) (i : ℕ) → isSome (row-refusal xs i) ≡ not (row-ok xs i)
+unfolding row-refusal
+row-refusal-some xs i =
+    some-by (leb (kind xs i) 8) (earlier i (named (row-in xs i))) (mapped (NotEarlier i) (first-not-earlier i (named (row-in xs i)))) _
+      (some-mapped (NotEarlier i) (first-not-earlier i (named (row-in xs i))) ∙ later-some i (named (row-in xs i)))
+    ∙ ap not (sym (row-ok-is xs i))
+
+pub scan-some : (xs : List ℕ) (n : ℕ) → isSome (first-said (row-refusal xs) n) ≡ not (rows-ok xs n)
+unfolding first-said rows-ok
+scan-some xs zero = refl
+scan-some xs (suc n) =
+    some-of-either (first-said (row-refusal xs) n) (row-refusal xs n) ∙ (λ t. scan-some xs n t || row-refusal-some xs n t) ∙ not-both (row-ok xs n) (rows-ok xs n)
+
+one-or-more : (n : ℕ) → leb 1 n ≡ not (eqb n 0)
+one-or-more zero = refl
+one-or-more (suc n) = le-leb 1 (suc n) (omega arith) ∙ sym (not-from-false _ (ne-eqb (suc n) 0 (λ e. omega arith)))
+
+shape-some : (whole none few ok : Bool) (o : Option Refusal) (x y z : Refusal) → isSome o ≡ not ok →
+    isSome (cond whole (cond none (Some x) (cond few o (Some y))) (Some z)) ≡ not (whole && (not none && (few && ok)))
+shape-some true true few ok o x y z h = refl
+shape-some true false true ok o x y z h = h
+shape-some true false false ok o x y z h = refl
+shape-some false none few ok o x y z h = refl
+
+-- refusal number 1 applies exactly where the rows aren't taken
+pub rows-refusal-some : (xs : List ℕ) → isSome (rows-refusal xs) ≡ not (rows-taken xs)
+unfolding rows-refusal rows-taken
+rows-refusal-some xs =
+    shape-some (eqb (length xs) (4 * rows xs)) (eqb (rows xs) 0) (leb (rows xs) 256) (rows-ok xs (rows xs)) (first-said (row-refusal xs) (rows xs)) _ _ _ (scan-some xs (rows xs))
+    ∙ ap (λ t. not (eqb (length xs) (4 * rows xs) && (t && (leb (rows xs) 256 && rows-ok xs (rows xs))))) (sym (one-or-more (rows xs)))
+
+-- rows that are taken are valid
+pub taken-valid : (xs : List ℕ) → rows-taken xs ≡ true → Valid xs
+unfolding rows-taken
+taken-valid xs h =
+    let p = and-parts (eqb (length xs) (4 * rows xs)) _ h in
+    let q = and-parts (leb 1 (rows xs)) _ (p .1) in
+    let r = and-parts (leb (rows xs) 256) _ (q .1) in
+    record { shape = shaped-from xs (record { whole = eqb-true _ _ (p .0); some = leb-true 1 _ (q .0); few = leb-true _ 256 (r .0) }); order = r .1 }
+
+-- and so are rows that get no refusal
+pub unrefused-valid : (xs : List ℕ) → rows-refusal xs ≡ None → Valid xs
+unrefused-valid xs e = taken-valid xs (not-false (rows-taken xs) (sym (rows-refusal-some xs) ∙ ap isSome e))
+
+-- the refusals of rows out of shape, by the count of numbers
+module _ (xs : List ℕ) where
+  pub cut-short : (length xs % 4 ≡ 0 → ⊥) → Some (CutShort (length xs / 4) (length xs)) ≡ rows-refusal xs
+  unfolding rows-refusal
+  cut-short h =
+      ap (λ n. Some (CutShort n (length xs))) (sym (rows-is xs)) ∙ sym (cond-false (eqb (length xs) (4 * rows xs)) _ _ (ne-eqb _ _ (λ e. h (omega (arith, rows-is xs)))))
+
+  whole-rows : length xs % 4 ≡ 0 → eqb (length xs) (4 * rows xs) ≡ true
+  whole-rows h = eq-eqb _ _ (omega (arith, rows-is xs))
+
+  pub no-rows : length xs % 4 ≡ 0 → length xs / 4 ≡ 0 → Some NoRows ≡ rows-refusal xs
+  unfolding rows-refusal
+  no-rows h z = sym (cond-true _ _ _ (whole-rows h) ∙ cond-true (eqb (rows xs) 0) _ _ (eq-eqb _ _ (rows-is xs ∙ z)))
+
+  some-rows : 0 < length xs / 4 → eqb (rows xs) 0 ≡ false
+  some-rows h = ne-eqb _ _ (λ e. omega (arith, rows-is xs))
+
+  pub too-many-rows : length xs % 4 ≡ 0 → 256 < length xs / 4 → Some (TooManyRows (length xs / 4) 256) ≡ rows-refusal xs
+  unfolding rows-refusal
+  too-many-rows h l =
+      ap (λ n. Some (TooManyRows n 256)) (sym (rows-is xs))
+      ∙ sym (cond-true _ _ _ (whole-rows h) ∙ cond-false _ _ _ (some-rows (omega arith)) ∙ cond-false (leb (rows xs) 256) _ _ (lt-leb _ _ (omega (arith, rows-is xs))))
+
+  pub scanned-rows : (o : Option Refusal) → length xs % 4 ≡ 0 → 0 < length xs / 4 → length xs / 4 ≤ 256 → o ≡ first-said (row-refusal xs) (length xs / 4) → o ≡ rows-refusal xs
+  unfolding rows-refusal
+  scanned-rows o h l k e =
+      e ∙ ap (first-said (row-refusal xs)) (sym (rows-is xs))
+      ∙ sym (cond-true _ _ _ (whole-rows h) ∙ cond-false _ _ _ (some-rows l) ∙ cond-true (leb (rows xs) 256) _ _ (le-leb _ _ (omega (arith, rows-is xs))))
+
+-- what is said of one row, by its kind and by the rows that it names
+pub unknown-kind : (xs : List ℕ) (i : ℕ) → 8 < kind xs i → Some (UnknownKind i (kind xs i) 8) ≡ row-refusal xs i
+unfolding row-refusal
+unknown-kind xs i h = sym (cond-false (leb (kind xs i) 8) _ _ (lt-leb (kind xs i) 8 h))
+
+pub known-kind : (xs : List ℕ) (i : ℕ) (o : Option ℕ) (js : List ℕ) (r : Row) → kind xs i ≤ 8 → o ≡ first-not-earlier i js → js ≡ named r → r ≡ row-in xs i → mapped (NotEarlier i) o ≡ row-refusal xs i
+unfolding row-refusal
+known-kind xs i o js r h e f g =
+    ap (mapped (NotEarlier i)) (e ∙ ap (first-not-earlier i) (f ∙ ap named g)) ∙ sym (cond-true (leb (kind xs i) 8) _ _ (le-leb (kind xs i) 8 h))

@@ -1,0 +1,74 @@
+-- What holds of programs in rows: statements, each on the contract of a function of src/laws.rt.
+use mathlib.Core.Bool.{true, false, cond}
+use mathlib.Core.List.{List}
+use mathlib.Core.Path.{_≡_}
+use Prim.Native.Nat.{ℕ, _-_, _<_, _≤_}
+use lib.Dec.{leb}
+use Rattle.std.specs.Orderings.{Decides}
+use Rattle.std.specs.declared.option.Option.the-variants.{Some, None}
+use Rattle.semantics.specs.Program.{Program, constant, place, added, times, less, set, after, if-not-nought, again, fits, names, Within}
+use Rattle.program.specs.Row.{kind, first, second, third, row-in, own-place}
+use Rattle.program.specs.Rows.{rows, rows-ok, row-ok, shaped, program-at, program-in, at-row, Valid}
+use Rattle.program.specs.Reach.{Reaches, reached}
+use Rattle.program.specs.Refusal.{place-of}
+use Rattle.program.specs.Validation.{refusal-number, answered, absent, rows-refusal, places-refusal, program-refusal}
+use Rattle.program.specs.declared.refusal.Refusal.{Refusal}
+use Rattle.program.specs.declared.refusal.Refusal.the-variants.{NoSuchPlace, TooManyPlaces}
+
+-- the depth to which a row is read doesn't matter, once it exceeds the row's number
+abbrev pub Depth-does-not-matter : Type 0
+Depth-does-not-matter = (xs : List ℕ) (depth i : ℕ) → Valid xs → i < rows xs → i < depth → program-at xs depth i ≡ at-row xs i
+
+-- the program at a row by the programs at the rows that it names, for each kind
+pub record Equations (xs : List ℕ) (i : ℕ) : Type 0 where
+  pub kind-0 : kind xs i ≡ 0 → at-row xs i ≡ constant (first xs i)
+  pub kind-1 : kind xs i ≡ 1 → at-row xs i ≡ place (first xs i)
+  pub kind-2 : kind xs i ≡ 2 → at-row xs i ≡ added (at-row xs (first xs i)) (at-row xs (second xs i))
+  pub kind-3 : kind xs i ≡ 3 → at-row xs i ≡ times (at-row xs (first xs i)) (at-row xs (second xs i))
+  pub kind-4 : kind xs i ≡ 4 → at-row xs i ≡ less (at-row xs (first xs i)) (at-row xs (second xs i))
+  pub kind-5 : kind xs i ≡ 5 → at-row xs i ≡ set (first xs i) (at-row xs (second xs i))
+  pub kind-6 : kind xs i ≡ 6 → at-row xs i ≡ after (at-row xs (first xs i)) (at-row xs (second xs i))
+  pub kind-7 : kind xs i ≡ 7 → at-row xs i ≡ if-not-nought (at-row xs (first xs i)) (at-row xs (second xs i)) (at-row xs (third xs i))
+  pub kind-8 : kind xs i ≡ 8 → at-row xs i ≡ again (first xs i) (at-row xs (second xs i)) (at-row xs (third xs i))
+
+abbrev pub Rows-stand-for-programs : Type 0
+Rows-stand-for-programs = (xs : List ℕ) → Valid xs → ((i : ℕ) → i < rows xs → Equations xs i) × (program-in xs ≡ at-row xs (rows xs - 1))
+
+-- what the rows stand for that a row reaches is exactly what stands in the row's program
+abbrev pub Reach-is-membership : Type 0
+Reach-is-membership =
+    (xs : List ℕ) (i : ℕ) (q : Program) → Valid xs → i < rows xs →
+    (Within q (at-row xs i) → (k : ℕ) × Reaches xs k i × (at-row xs k ≡ q)) × ((k : ℕ) → Reaches xs k i → at-row xs k ≡ q → Within q (at-row xs i))
+
+-- the test of the rows that the last row reaches is that
+abbrev pub Reached-is-reach : Type 0
+Reached-is-reach = (xs : List ℕ) (k : ℕ) → Valid xs → Decides (reached xs k) (Reaches xs k (rows xs - 1))
+
+-- the program fits so many places exactly if each place that a reached row names by itself is one of them
+abbrev pub Fits-what-is-reached : Type 0
+Fits-what-is-reached =
+    (xs : List ℕ) (n : ℕ) → Valid xs → Decides (fits n (program-in xs)) ((k p : ℕ) → Reaches xs k (rows xs - 1) → own-place (row-in xs k) ≡ Some p → p < n)
+
+-- the refusal that is answered has the number that the rules give
+abbrev pub Answered-by-number : Type 0
+Answered-by-number = (xs : List ℕ) (n : ℕ) → answered (program-refusal xs n) ≡ refusal-number xs n
+
+-- of rows in shape, the row that a refusal says is the lowest that is wrong
+abbrev pub Lowest-row : Type 0
+Lowest-row =
+    (xs : List ℕ) (r : Refusal) → shaped xs ≡ true → rows-refusal xs ≡ Some r →
+    (place-of r < rows xs) × (rows-ok xs (place-of r) ≡ true) × (row-ok xs (place-of r) ≡ false)
+
+-- row k is the lowest that the last row reaches and that names a place p which isn't among n
+pub record Lowest-absent (xs : List ℕ) (n k p : ℕ) : Type 0 where
+  pub reaches : Reaches xs k (rows xs - 1)
+  pub own : own-place (row-in xs k) ≡ Some p
+  pub missing : n ≤ p
+  pub lowest : (j q : ℕ) → j < k → Reaches xs j (rows xs - 1) → own-place (row-in xs j) ≡ Some q → q < n
+
+-- a program that doesn't fit is refused for the place of that row; one that fits, only for too many places
+abbrev pub Lowest-place : Type 0
+Lowest-place =
+    (xs : List ℕ) (n : ℕ) → Valid xs →
+    (fits n (program-in xs) ≡ false → (k : ℕ) × (p : ℕ) × (places-refusal xs n ≡ Some (NoSuchPlace k p n)) × Lowest-absent xs n k p) ×
+    (fits n (program-in xs) ≡ true → places-refusal xs n ≡ cond (leb n 1024) None (Some (TooManyPlaces n 1024)))

@@ -1,0 +1,17 @@
+// Programs in rows of numbers: what a row says, which numbers are programs, and why the others are turned away.
+mod decoder;
+mod fitting;
+pub mod limits;
+mod reach;
+mod refusal;
+mod row;
+mod valid;
+mod validate;
+
+pub use fitting::FittingProgram;
+pub use refusal::Refusal;
+pub use row::Row;
+pub use valid::ValidProgram;
+pub use validate::places_refusal;
+pub use validate::rows_refusal;
+pub use validate::validate_program;
