@@ -5,4 +5,5 @@ pub mod Programs
 pub mod Reaching
 pub mod Refusing
 pub mod Placing
+pub mod Numbering
 pub mod Taken

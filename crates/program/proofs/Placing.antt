@@ -1,5 +1,5 @@
 -- Refusal number 2 by the definitions, and the pass from the last row back that finds it. Assumes nothing.
-use mathlib.Core.Bool.{Bool, true, false, cond}
+use mathlib.Core.Bool.{Bool, true, false, _&&_, cond}
 use mathlib.Core.List.{List, [], _∷_, List·Memᴰ, List·Memᴰ·head, List·Memᴰ·tail, List·Memᴰ·not-nil}
 use mathlib.Core.Logic.{_⊎_, inl, inr, ⊎-elim, _≢_}
 use mathlib.Core.Path.{_≡_, refl, sym, ap, subst, _∙_}
@@ -20,16 +20,14 @@ use Rattle.semantics.proofs.Members.{all-member}
 use Rattle.program.specs.Row.{named, own-place, row-in}
 use Rattle.program.specs.Rows.{rows, program-in, Valid}
 use Rattle.program.specs.Reach.{Reaches, itself, through, reached, marked}
-use Rattle.program.specs.Validation.{first-said, absent, row-place-refusal, places-refusal}
+use Rattle.program.specs.Validation.{first-said, absent, row-place-refusal, places-refusal, places-taken, answered}
+use Rattle.program.specs.Laws.{Lowest-absent}
 use Rattle.program.specs.declared.row.Row.{Row}
 use Rattle.program.specs.declared.refusal.Refusal.{Refusal}
 use Rattle.program.specs.declared.refusal.Refusal.the-variants.{NoSuchPlace, TooManyPlaces}
-use Rattle.program.proofs.Reaching.{reaches-back, member-earlier, reached-decides, last-row}
-use Rattle.program.proofs.Refusing.{said-last, said-none}
+use Rattle.program.proofs.Reaching.{reaches-back, member-earlier, reached-decides, last-row, fits-reached, reached-fits}
+use Rattle.program.proofs.Refusing.{none-some, or-none, said-last, said-none, said-none-at, said-some-at}
 use Rattle.program.proofs.Shape.{Shape, shape-of}
-
-none-some : (r : Refusal) → None ≡ Some r → ⊥
-none-some r e = true≢false (sym (ap isSome e))
 
 -- a table with some rows marked
 length-marked : (t : List Bool) (js : List ℕ) → length (marked t js) ≡ length t
@@ -59,10 +57,6 @@ marked-only t (j ∷ js) k h =
 reaches-on : (xs : List ℕ) (j k : ℕ) {i : ℕ} → Reaches xs j i → List·Memᴰ k (named (row-in xs j)) → Reaches xs k i
 reaches-on xs j k (itself e) m = through k (subst (λ (x : ℕ). List·Memᴰ k (named (row-in xs x))) e m) (itself refl)
 reaches-on xs j k (through l ml r) m = through l ml (reaches-on xs j k r m)
-
-or-none : (a b : Option Refusal) → orOther a b ≡ None → (a ≡ None) × (b ≡ None)
-or-none None b e = (refl, e)
-or-none (Some x) b e = absurd (none-some x (sym e))
 
 above : (i j : ℕ) → i ≤ j → (j ≡ i → ⊥) → i + 1 ≤ j
 above i j h ne = ⊎-elim (λ l. omega arith) (λ l. absurd (ne (omega arith))) (cases-lt i j)
@@ -178,21 +172,87 @@ module _ (xs : List ℕ) (n : ℕ) (v : Valid xs) where
   all-passed t found o p e =
       (λ i. orOther (sym (p .rest ∙ ap (λ s. orOther s found) (said-none (row-place-refusal xs n))) i) (e i))
 
--- a program that no row is refused of for its place fits
-said-none-at : (f : ℕ → Option Refusal) (n i : ℕ) → first-said f n ≡ None → i < n → f i ≡ None
-unfolding first-said
-said-none-at f zero i e l = absurd (omega arith)
-said-none-at f (suc n) i e l =
-    let p = or-none (first-said f n) (f n) e in
-    ⊎-elim (λ h. said-none-at f n i (p .0) h) (λ h. let z : n ≡ i = omega arith in subst (λ (k : ℕ). f k ≡ None) z (p .1)) (cases-lt i n)
+absent-none : (n i p : ℕ) (o : Option ℕ) → absent n i o ≡ None → o ≡ Some p → p < n
+absent-none n i p None a e = absurd (true≢false (sym (ap isSome e)))
+absent-none n i p (Some q) a e = ⊎-elim (λ h. let f = ltb-true q n h in let same : q ≡ p = cc in omega arith) (λ h. absurd (none-some _ (sym a ∙ cond-false (ltb q n) _ _ h))) (cases-bool (ltb q n))
 
--- a scan that says something says it of a row, and nothing of the rows before
-said-some-at : (f : ℕ → Option Refusal) (n : ℕ) (r : Refusal) → first-said f n ≡ Some r → (i : ℕ) × (i < n) × (f i ≡ Some r) × (first-said f i ≡ None)
-unfolding first-said
-said-some-at f zero r e = absurd (none-some r e)
-said-some-at f (suc n) r e = go (first-said f n) refl (said-some-at f n r)
-  where
-    go : (o : Option Refusal) → first-said f n ≡ o → (first-said f n ≡ Some r → (i : ℕ) × (i < n) × (f i ≡ Some r) × (first-said f i ≡ None)) →
-        (i : ℕ) × (i < suc n) × (f i ≡ Some r) × (first-said f i ≡ None)
-    go None h before = (n, omega arith, sym (ap (λ o. orOther o (f n)) h) ∙ e, h)
-    go (Some q) h before = let (i, l, a, b) = before (h ∙ sym (ap (λ o. orOther o (f n)) h) ∙ e) in (i, omega arith, a, b)
+absent-some : (n i : ℕ) (r : Refusal) (o : Option ℕ) → absent n i o ≡ Some r → (p : ℕ) × (o ≡ Some p) × (n ≤ p) × (r ≡ NoSuchPlace i p n)
+absent-some n i r None a = absurd (none-some r a)
+absent-some n i r (Some q) a =
+    ⊎-elim (λ h. absurd (none-some r (sym (cond-true (ltb q n) _ _ h) ∙ a)))
+    (λ h. let same : Some r ≡ Some (NoSuchPlace i q n) = sym a ∙ cond-false (ltb q n) _ _ h in (q, refl, ltb-false q n h, (cc)))
+    (cases-bool (ltb q n))
+
+module _ (xs : List ℕ) (n : ℕ) (v : Valid xs) where
+  -- nothing said of a reached row: its place is there
+  there : (k p : ℕ) → row-place-refusal xs n k ≡ None → Reaches xs k (rows xs - 1) → own-place (row-in xs k) ≡ Some p → p < n
+  unfolding row-place-refusal
+  there k p e r own = absent-none n k p _ (sym (cond-true (reached xs k) _ _ (reached-decides xs v k .1 r)) ∙ e) own
+
+  -- nothing said of all rows: the program fits
+  unsaid-fits : first-said (row-place-refusal xs n) (rows xs) ≡ None → fits n (program-in xs) ≡ true
+  unsaid-fits e =
+      reached-fits xs v n
+      (λ k p r own.
+          let s : rows xs - 1 < rows xs = last-row xs v in
+          let b : k ≤ rows xs - 1 = reaches-back xs (rows xs) (v .order) k s r in
+          there k p (said-none-at (row-place-refusal xs n) (rows xs) k e (omega arith)) r own)
+
+  -- something said: of the lowest reached row that names a place that isn't there
+  said-lowest : (r : Refusal) → first-said (row-place-refusal xs n) (rows xs) ≡ Some r → (k : ℕ) × (p : ℕ) × (r ≡ NoSuchPlace k p n) × Lowest-absent xs n k p
+  unfolding row-place-refusal
+  said-lowest r e =
+      let (k, l, here, before) = said-some-at (row-place-refusal xs n) (rows xs) r e in
+      ⊎-elim
+      (λ (h : reached xs k ≡ true).
+          let (p, own, missing, is) = absent-some n k r (own-place (row-in xs k)) (sym (cond-true (reached xs k) _ _ h) ∙ here) in
+          (k, p, is, record {
+            reaches = reached-decides xs v k .0 h;
+            own = own;
+            missing = missing;
+            lowest = λ j q lt reach mine. there j q (said-none-at (row-place-refusal xs n) k j before lt) reach mine;
+          }))
+      (λ h. absurd (none-some r (sym (cond-false (reached xs k) _ _ h) ∙ here)))
+      (cases-bool (reached xs k))
+
+  -- a program that fits: nothing is said of its rows
+  fits-unsaid : fits n (program-in xs) ≡ true → first-said (row-place-refusal xs n) (rows xs) ≡ None
+  fits-unsaid f = go (first-said (row-place-refusal xs n) (rows xs)) refl
+    where
+      go : (o : Option Refusal) → first-said (row-place-refusal xs n) (rows xs) ≡ o → first-said (row-place-refusal xs n) (rows xs) ≡ None
+      go None e = e
+      go (Some r) e =
+          let (k, p, is, low) = said-lowest r e in
+          absurd (omega (arith, fits-reached xs v n f k p (low .reaches) (low .own), low .missing))
+
+  pub places-unfit : fits n (program-in xs) ≡ false → (k : ℕ) × (p : ℕ) × (places-refusal xs n ≡ Some (NoSuchPlace k p n)) × Lowest-absent xs n k p
+  unfolding places-refusal
+  places-unfit f = go (first-said (row-place-refusal xs n) (rows xs)) refl
+    where
+      go : (o : Option Refusal) → first-said (row-place-refusal xs n) (rows xs) ≡ o → (k : ℕ) × (p : ℕ) × (places-refusal xs n ≡ Some (NoSuchPlace k p n)) × Lowest-absent xs n k p
+      go None e = absurd (both-ways (fits n (program-in xs)) f (unsaid-fits e))
+      go (Some r) e = let (k, p, is, low) = said-lowest r e in (k, p, ap (λ o. orOther o (cond (leb n 1024) None (Some (TooManyPlaces n 1024)))) e ∙ ap Some is, low)
+
+  pub places-fit : fits n (program-in xs) ≡ true → places-refusal xs n ≡ cond (leb n 1024) None (Some (TooManyPlaces n 1024))
+  unfolding places-refusal
+  places-fit f = ap (λ o. orOther o (cond (leb n 1024) None (Some (TooManyPlaces n 1024)))) (fits-unsaid f)
+
+  -- no refusal: the program fits, and there are few places
+  pub unrefused-fits : places-refusal xs n ≡ None → (fits n (program-in xs) ≡ true) × (leb n 1024 ≡ true)
+  unfolding places-refusal
+  unrefused-fits e =
+      let p = or-none (first-said (row-place-refusal xs n) (rows xs)) (cond (leb n 1024) None (Some (TooManyPlaces n 1024))) e in
+      (unsaid-fits (p .0), ⊎-elim (λ h. h) (λ h. absurd (none-some _ (sym (p .1) ∙ cond-false (leb n 1024) _ _ h))) (cases-bool (leb n 1024)))
+
+  -- the number of refusal 2, where it applies
+  pub places-number : answered (places-refusal xs n) ≡ cond (places-taken xs n) 0 2
+  unfolding places-taken
+  places-number =
+      ⊎-elim
+      (λ f. ap answered (places-fit f) ∙ by-count (leb n 1024) ∙ sym (ap (λ t. cond (t && leb n 1024) 0 2) f))
+      (λ f. let (k, p, e, low) = places-unfit f in ap answered e ∙ sym (ap (λ t. cond (t && leb n 1024) 0 2) f))
+      (cases-bool (fits n (program-in xs)))
+    where
+      by-count : (t : Bool) → answered (cond t None (Some (TooManyPlaces n 1024))) ≡ cond t 0 2
+      by-count true = refl
+      by-count false = refl

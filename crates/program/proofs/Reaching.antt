@@ -160,12 +160,14 @@ module _ (xs : List ℕ) (v : Valid xs) where
     λ r. reaches-by-complete xs (rows xs) (v .order) (rows xs) k last-row (omega (arith, last-row)) r,
   )
 
+  pub names-reached : (p : ℕ) → Decides (names p (program-in xs)) ((k : ℕ) × Reaches xs k (rows xs - 1) × (own-place (row-in xs k) ≡ Some p))
+  names-reached p = (
+    λ m. named-own xs (rows xs) (v .order) p (rows xs) (rows xs - 1) last-row last-row (subst (λ (t : Program). names p t ≡ true) (program-in-is xs v) m),
+    λ h. let (k, r, e) = h in subst (λ (t : Program). names p t ≡ true) (sym (program-in-is xs v)) (own-named xs (rows xs) (v .order) p k (rows xs - 1) last-row r e),
+  )
+
   pub fits-reached : (n : ℕ) → fits n (program-in xs) ≡ true → (k p : ℕ) → Reaches xs k (rows xs - 1) → own-place (row-in xs k) ≡ Some p → p < n
-  fits-reached n f k p r e =
-      fits-below n p (at-row xs (rows xs - 1)) (subst (λ (t : Program). fits n t ≡ true) (program-in-is xs v) f) (own-named xs (rows xs) (v .order) p k (rows xs - 1) last-row r e)
+  fits-reached n f k p r e = fits-below n p (program-in xs) f (names-reached p .1 (k, r, e))
 
   pub reached-fits : (n : ℕ) → ((k p : ℕ) → Reaches xs k (rows xs - 1) → own-place (row-in xs k) ≡ Some p → p < n) → fits n (program-in xs) ≡ true
-  reached-fits n h =
-      subst (λ (t : Program). fits n t ≡ true) (sym (program-in-is xs v))
-      (fits-from-names n (at-row xs (rows xs - 1))
-        (λ p m. let (k, r, e) = named-own xs (rows xs) (v .order) p (rows xs) (rows xs - 1) last-row last-row m in h k p r e))
+  reached-fits n h = fits-from-names n (program-in xs) (λ p m. let (k, r, e) = names-reached p .0 m in h k p r e)

@@ -52,6 +52,32 @@ pub said-none : (f : ℕ → Option Refusal) → first-said f 0 ≡ None
 unfolding first-said
 said-none f = refl
 
+pub none-some : (r : Refusal) → None ≡ Some r → ⊥
+none-some r e = true≢false (sym (ap isSome e))
+
+pub or-none : (a b : Option Refusal) → orOther a b ≡ None → (a ≡ None) × (b ≡ None)
+or-none None b e = (refl, e)
+or-none (Some x) b e = absurd (none-some x (sym e))
+
+-- a scan that says nothing says nothing of each row
+pub said-none-at : (f : ℕ → Option Refusal) (n i : ℕ) → first-said f n ≡ None → i < n → f i ≡ None
+unfolding first-said
+said-none-at f zero i e l = absurd (omega arith)
+said-none-at f (suc n) i e l =
+    let p = or-none (first-said f n) (f n) e in
+    ⊎-elim (λ h. said-none-at f n i (p .0) h) (λ h. let z : n ≡ i = omega arith in subst (λ (k : ℕ). f k ≡ None) z (p .1)) (cases-lt i n)
+
+-- a scan that says something says it of a row, and nothing of the rows before
+pub said-some-at : (f : ℕ → Option Refusal) (n : ℕ) (r : Refusal) → first-said f n ≡ Some r → (i : ℕ) × (i < n) × (f i ≡ Some r) × (first-said f i ≡ None)
+unfolding first-said
+said-some-at f zero r e = absurd (none-some r e)
+said-some-at f (suc n) r e = go (first-said f n) refl (said-some-at f n r)
+  where
+    go : (o : Option Refusal) → first-said f n ≡ o → (first-said f n ≡ Some r → (i : ℕ) × (i < n) × (f i ≡ Some r) × (first-said f i ≡ None)) →
+        (i : ℕ) × (i < suc n) × (f i ≡ Some r) × (first-said f i ≡ None)
+    go None h before = (n, omega arith, sym (ap (λ o. orOther o (f n)) h) ∙ e, h)
+    go (Some q) h before = let (i, l, a, b) = before (h ∙ sym (ap (λ o. orOther o (f n)) h) ∙ e) in (i, omega arith, a, b)
+
 some-of-either : {A : Type 0} (o p : Option A) → isSome (orOther o p) ≡ (isSome o || isSome p)
 some-of-either None p = refl
 some-of-either (Some x) p = refl

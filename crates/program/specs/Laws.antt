@@ -11,7 +11,7 @@ use Rattle.program.specs.Row.{kind, first, second, third, row-in, own-place}
 use Rattle.program.specs.Rows.{rows, rows-ok, row-ok, shaped, program-at, program-in, at-row, Valid}
 use Rattle.program.specs.Reach.{Reaches, reached}
 use Rattle.program.specs.Refusal.{place-of}
-use Rattle.program.specs.Validation.{refusal-number, answered, absent, rows-refusal, places-refusal, program-refusal}
+use Rattle.program.specs.Validation.{rows-refusal, places-refusal}
 use Rattle.program.specs.declared.refusal.Refusal.{Refusal}
 use Rattle.program.specs.declared.refusal.Refusal.the-variants.{NoSuchPlace, TooManyPlaces}
 
@@ -44,14 +44,15 @@ Reach-is-membership =
 abbrev pub Reached-is-reach : Type 0
 Reached-is-reach = (xs : List ℕ) (k : ℕ) → Valid xs → Decides (reached xs k) (Reaches xs k (rows xs - 1))
 
+-- the program names a place exactly if a reached row names it by itself
+abbrev pub Names-what-is-reached : Type 0
+Names-what-is-reached =
+    (xs : List ℕ) (p : ℕ) → Valid xs → Decides (names p (program-in xs)) ((k : ℕ) × Reaches xs k (rows xs - 1) × (own-place (row-in xs k) ≡ Some p))
+
 -- the program fits so many places exactly if each place that a reached row names by itself is one of them
 abbrev pub Fits-what-is-reached : Type 0
 Fits-what-is-reached =
     (xs : List ℕ) (n : ℕ) → Valid xs → Decides (fits n (program-in xs)) ((k p : ℕ) → Reaches xs k (rows xs - 1) → own-place (row-in xs k) ≡ Some p → p < n)
-
--- the refusal that is answered has the number that the rules give
-abbrev pub Answered-by-number : Type 0
-Answered-by-number = (xs : List ℕ) (n : ℕ) → answered (program-refusal xs n) ≡ refusal-number xs n
 
 -- of rows in shape, the row that a refusal says is the lowest that is wrong
 abbrev pub Lowest-row : Type 0

@@ -9,7 +9,7 @@ use crate::limits::MAX_ROWS;
 use crate::row::Named;
 
 // A flag for each row a program may have.
-pub type Table = [bool; MAX_ROWS];
+type Table = [bool; MAX_ROWS];
 
 // Marks the rows that a row names.
 pub(crate) fn mark(table: &mut Table, rows: Named)

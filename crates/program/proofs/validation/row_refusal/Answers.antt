@@ -1,6 +1,6 @@
 use Rattle.std.specs.declared.option.Option.the-variants.{Some, None}
 use Rattle.program.proofs.Refusing.{unknown-kind, known-kind}
-use Rattle.program.proofs.validate.row_refusal.Needs as need
+use Rattle.program.proofs.validation.row_refusal.Needs as need
 
 pub returns-then-kind-gt-MAX-KIND : need.returns-then-kind-gt-MAX-KIND
 returns-then-kind-gt-MAX-KIND c = unknown-kind (c .args .numbers .now) (c .args .row) (c .if-kind-gt-MAX-KIND .taken)

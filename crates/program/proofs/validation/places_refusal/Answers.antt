@@ -11,7 +11,7 @@ use Rattle.program.specs.Row.{named}
 use Rattle.program.proofs.Placing.{Passed, none-passed, pass-unreached, pass-reached, all-passed}
 use Rattle.program.proofs.Shape.{Shape, shape-of}
 use Rattle.program.proofs.Taken.{valid-of}
-use Rattle.program.proofs.validate.places_refusal.Needs as need
+use Rattle.program.proofs.validation.places_refusal.Needs as need
 
 pub sub-reached : need.sub-reached
 sub-reached c = let s : Shape (c .args .program .numbers .now) = shape-of _ (c .args .program .shape) in omega arith

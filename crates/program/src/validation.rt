@@ -6,7 +6,7 @@ ghost use lib.Dec.{ltb, leb};
 ghost use lib.ListN.{length};
 ghost use Rattle.std.specs.declared.option.Option.the-variants.{Some, None};
 ghost use Rattle.program.specs.Row.{named-rows, own-place};
-ghost use Rattle.program.specs.Validation.{first-not-earlier, row-refusal, rows-refusal, absent, places-refusal, program-refusal};
+ghost use Rattle.program.specs.Validation.{first-not-earlier, row-refusal, rows-refusal, absent, places-refusal, program-refusal, refusal-number, answered};
 ghost use Rattle.program.specs.declared.refusal.Refusal.the-variants.{TooManyPlaces};
 use crate::limits::MAX_KIND;
 use crate::limits::MAX_PLACES;
@@ -123,8 +123,9 @@ pub fn places_refusal(program: ValidProgram, places: usize) -> Option<Refusal>
 }
 
 // The first refusal that applies to numbers that should be a program and to a count of places: number 1, then number 2.
-pub fn validate_program(numbers: &[u32], places: usize) -> Option<Refusal>
-    ensures { λ r. ⌜ r ≡ program-refusal (now (numbers .entry)) places ⌝ }
+pub fn validate(numbers: &[u32], places: usize) -> Option<Refusal>
+    ensures which { λ r. ⌜ r ≡ program-refusal (now (numbers .entry)) places ⌝ }
+    ensures number { λ r. ⌜ answered r ≡ refusal-number (now (numbers .entry)) places ⌝ }
 {
     match rows_refusal(numbers) {
         Some(refusal) => Some(refusal),

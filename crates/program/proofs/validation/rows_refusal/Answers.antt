@@ -5,7 +5,7 @@ use native.Mathlib.Omega.{arith}
 use Rattle.std.specs.declared.option.Option.the-variants.{None}
 use Rattle.program.specs.Validation.{first-said, row-refusal}
 use Rattle.program.proofs.Refusing.{cut-short, no-rows, too-many-rows, scanned-rows, said-none, said-here, said-nothing}
-use Rattle.program.proofs.validate.rows_refusal.Needs as need
+use Rattle.program.proofs.validation.rows_refusal.Needs as need
 
 pub returns-then-count-ne0 : need.returns-then-count-ne0
 returns-then-count-ne0 c = cut-short (c .args .numbers .now) (c .if-count-ne0 .taken)

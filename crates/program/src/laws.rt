@@ -1,0 +1,58 @@
+// The laws of programs in rows: each function carries one, so that the check demands its proof.
+ghost use Rattle.program.specs.Laws.{Depth-does-not-matter, Rows-stand-for-programs, Reach-is-membership, Reached-is-reach, Names-what-is-reached, Fits-what-is-reached, Lowest-row, Lowest-place};
+
+// The depth to which a row is read doesn't matter, once it exceeds the row's number.
+pub fn depth_does_not_matter() -> u8
+    ensures { λ _. ⌜ Depth-does-not-matter ⌝ }
+{
+    0
+}
+
+// The program at a row by the programs at the rows that it names, an equation for each kind; the last row is the program.
+pub fn rows_stand_for_programs() -> u8
+    ensures { λ _. ⌜ Rows-stand-for-programs ⌝ }
+{
+    0
+}
+
+// What the rows stand for that a row reaches is exactly what stands in the row's program.
+pub fn reach_is_membership() -> u8
+    ensures { λ _. ⌜ Reach-is-membership ⌝ }
+{
+    0
+}
+
+// The test by which the refusals speak of reached rows tells what the last row reaches.
+pub fn reached_is_reach() -> u8
+    ensures { λ _. ⌜ Reached-is-reach ⌝ }
+{
+    0
+}
+
+// A program names a place exactly if a row that the last one reaches names it by itself.
+pub fn names_what_is_reached() -> u8
+    ensures { λ _. ⌜ Names-what-is-reached ⌝ }
+{
+    0
+}
+
+// A program fits so many places exactly if each place that a reached row names by itself is one of them.
+pub fn fits_what_is_reached() -> u8
+    ensures { λ _. ⌜ Fits-what-is-reached ⌝ }
+{
+    0
+}
+
+// Of rows in shape, the row that a refusal says is the lowest that is wrong.
+pub fn lowest_row() -> u8
+    ensures { λ _. ⌜ Lowest-row ⌝ }
+{
+    0
+}
+
+// A program that doesn't fit is refused for the place of the lowest reached row that names one that isn't there; one that fits, only for too many places.
+pub fn lowest_place() -> u8
+    ensures { λ _. ⌜ Lowest-place ⌝ }
+{
+    0
+}
