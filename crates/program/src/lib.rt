@@ -11,7 +11,11 @@ mod validation;
 
 pub use fitting::FittingProgram;
 pub use refusal::Refusal;
+pub use refusal::RefusalDebug;
+pub use refusal::RefusalPartialEq;
 pub use row::Row;
+pub use row::RowDebug;
+pub use row::RowPartialEq;
 pub use valid::ValidProgram;
 pub use validation::places_refusal;
 pub use validation::rows_refusal;

@@ -1,0 +1,83 @@
+// Reads a text of two statements, `places` and `rows`, each with its numbers; `#` starts a comment that ends with the line.
+use program::Refusal;
+use std::alloc::AllocError;
+use std::alloc::Global;
+
+// The statement whose numbers come next.
+#[derive(Clone, Copy)]
+enum Section {
+    Start,
+    Places,
+    Rows,
+}
+
+// What the text has said so far.
+#[derive(Drop)]
+pub(crate) struct Text {
+    pub(crate) places: Vec<u32>,
+    pub(crate) rows: Vec<u32>,
+    section: Section,
+}
+
+// A number of decimal digits, below 2^32.
+fn number(word: &str) -> Option<u32> {
+    if word.starts_with('+') {
+        return None;
+    }
+    word.parse::<u32>().ok()
+}
+
+impl Text {
+    // One word more: the name of a statement, which starts its numbers anew, or a number. False where it is neither.
+    fn take_word(&mut self, word: &str) -> Result<bool, AllocError> {
+        if word == "places" {
+            self.section = Section::Places;
+            self.places.clear();
+            return Ok(true);
+        }
+        if word == "rows" {
+            self.section = Section::Rows;
+            self.rows.clear();
+            return Ok(true);
+        }
+        let Some(number) = number(word) else {
+            return Ok(false);
+        };
+        match self.section {
+            Section::Start => return Ok(false),
+            Section::Places => self.places.push(number)?,
+            Section::Rows => self.rows.push(number)?,
+        }
+        Ok(true)
+    }
+
+    // The words of one line, up to a comment. False where one doesn't fit.
+    fn take_line(&mut self, line: &str) -> Result<bool, AllocError> {
+        let words = match line.split_once('#') {
+            Some((before, _)) => before,
+            None => line,
+        };
+        for word in words.split([' ', '\t', '\r']) {
+            if !word.is_empty() && !self.take_word(word)? {
+                return Ok(false);
+            }
+        }
+        Ok(true)
+    }
+}
+
+// What the bytes say, or the first line that can't be read. Bytes that aren't UTF-8 become a character that no word has.
+pub(crate) fn read(heap: Global, bytes: &[u8]) -> Result<Result<Text, Refusal>, AllocError> {
+    let whole = String::from_utf8_lossy(heap, bytes)?;
+    let mut text = Text {
+        places: Vec::new(heap),
+        rows: Vec::new(heap),
+        section: Section::Start,
+    };
+    for (line, words) in whole.as_str().lines().enumerate() {
+        if !text.take_line(words)? {
+            return Ok(Err(Refusal::Unreadable { line }));
+        }
+    }
+    Ok(Ok(text))
+}
