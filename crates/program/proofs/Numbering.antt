@@ -14,7 +14,7 @@ use Rattle.std.specs.declared.option.Option.the-variants.{Some, None}
 use Rattle.program.specs.Row.{kind, named, row-in}
 use Rattle.program.specs.Rows.{rows, rows-ok, row-ok, shaped}
 use Rattle.program.specs.Refusal.{number-of, place-of}
-use Rattle.program.specs.Validation.{answered, refusal-number, rows-taken, first-said, first-not-earlier, row-refusal, rows-refusal, places-refusal, places-taken, program-refusal}
+use Rattle.program.specs.Validation.{answered, refusal-number, rows-taken, first-said, first-not-earlier, kind-refusal, row-refusal, shape-refusal, rows-refusal, places-refusal, places-taken, program-refusal}
 use Rattle.program.specs.declared.refusal.Refusal.{Refusal}
 use Rattle.program.specs.declared.refusal.Refusal.the-variants.{UnknownKind, NotEarlier}
 use Rattle.program.proofs.Placing.{places-number}
@@ -41,11 +41,13 @@ scan-1 : (xs : List ℕ) (n : ℕ) → Number-1 (first-said (row-refusal xs) n)
 unfolding first-said row-refusal
 scan-1 xs zero = refl
 scan-1 xs (suc n) =
-    either-1 (first-said (row-refusal xs) n) (row-refusal xs n) (scan-1 xs n) (cond-1 (leb (kind xs n) 8) _ _ (later-1 n (first-not-earlier n (named (row-in xs n)))) refl)
+    either-1 (first-said (row-refusal xs) n) (row-refusal xs n) (scan-1 xs n)
+    (either-1 (kind-refusal n (kind xs n)) _ (cond-1 (leb (kind xs n) 8) _ _ refl refl) (later-1 n (first-not-earlier n (named (row-in xs n)))))
 
 rows-1 : (xs : List ℕ) → Number-1 (rows-refusal xs)
-unfolding rows-refusal
-rows-1 xs = cond-1 (eqb (length xs) (4 * rows xs)) _ _ (cond-1 (eqb (rows xs) 0) _ _ refl (cond-1 (leb (rows xs) 256) _ _ (scan-1 xs (rows xs)) refl)) refl
+rows-1 xs =
+    either-1 (shape-refusal (length xs) (rows xs)) (first-said (row-refusal xs) (rows xs))
+    (cond-1 (eqb (length xs) (4 * rows xs)) _ _ (cond-1 (eqb (rows xs) 0) _ _ refl (cond-1 (leb (rows xs) 256) _ _ refl refl)) refl) (scan-1 xs (rows xs))
 
 none-of : (o : Option Refusal) → isSome o ≡ false → o ≡ None
 none-of None e = refl
@@ -57,15 +59,15 @@ first-answered (Some r) p e = refl
 
 -- the refusal that is answered has the number that the rules give
 pub answered-by-number : (xs : List ℕ) (n : ℕ) → answered (program-refusal xs n) ≡ refusal-number xs n
-unfolding program-refusal refusal-number
+unfolding refusal-number
 answered-by-number xs n =
     ⊎-elim
     (λ (t : rows-taken xs ≡ true).
-        ap (λ o. answered (orOther o (places-refusal xs n))) (none-of (rows-refusal xs) (rows-refusal-some xs ∙ ap not t))
-        ∙ places-number xs n (taken-valid xs t) ∙ sym (cond-true (rows-taken xs) _ _ t))
+    ap (λ o. answered (orOther o (places-refusal xs n))) (none-of (rows-refusal xs) (rows-refusal-some xs ∙ ap not t))
+    ∙ places-number xs n (taken-valid xs t) ∙ sym (cond-true (rows-taken xs) _ _ t))
     (λ (t : rows-taken xs ≡ false).
-        let some : isSome (rows-refusal xs) ≡ true = rows-refusal-some xs ∙ ap not t in
-        first-answered (rows-refusal xs) (places-refusal xs n) some ∙ rows-1 xs ∙ cond-true (isSome (rows-refusal xs)) 1 0 some ∙ sym (cond-false (rows-taken xs) _ _ t))
+    let some : isSome (rows-refusal xs) ≡ true = rows-refusal-some xs ∙ ap not t in
+    first-answered (rows-refusal xs) (places-refusal xs n) some ∙ rows-1 xs ∙ cond-true (isSome (rows-refusal xs)) 1 0 some ∙ sym (cond-false (rows-taken xs) _ _ t))
     (cases-bool (rows-taken xs))
 
 -- what is said of a row is said at that row
@@ -73,17 +75,17 @@ said-at-row : (xs : List ℕ) (i : ℕ) (r : Refusal) → row-refusal xs i ≡ S
 unfolding row-refusal
 said-at-row xs i r e = by-kind-of (leb (kind xs i) 8) (first-not-earlier i (named (row-in xs i))) e
   where
-    by-kind-of : (t : Bool) (o : Option ℕ) → cond t (mapped (NotEarlier i) o) (Some (UnknownKind i (kind xs i) 8)) ≡ Some r → place-of r ≡ i
+    by-kind-of : (t : Bool) (o : Option ℕ) → orOther (cond t None (Some (UnknownKind i (kind xs i) 8))) (mapped (NotEarlier i) o) ≡ Some r → place-of r ≡ i
     by-kind-of true None h = absurd (none-some r h)
     by-kind-of true (Some j) h = let same : NotEarlier i j ≡ r = cc in sym (ap place-of same)
     by-kind-of false o h = let same : UnknownKind i (kind xs i) 8 ≡ r = cc in sym (ap place-of same)
 
 -- rows in shape are refused for one of them, or not at all
 in-shape : (xs : List ℕ) → shaped xs ≡ true → rows-refusal xs ≡ first-said (row-refusal xs) (rows xs)
-unfolding rows-refusal
 in-shape xs h =
     let s : Shape xs = shape-of xs h in
-    cond-true (eqb (length xs) (4 * rows xs)) _ _ (eq-eqb _ _ (s .whole)) ∙ cond-false (eqb (rows xs) 0) _ _ (ne-eqb _ _ (λ e. omega arith)) ∙ cond-true (leb (rows xs) 256) _ _ (le-leb _ _ (s .few))
+    ap (λ o. orOther o (first-said (row-refusal xs) (rows xs)))
+    (cond-true (eqb (length xs) (4 * rows xs)) _ _ (eq-eqb _ _ (s .whole)) ∙ cond-false (eqb (rows xs) 0) _ _ (ne-eqb _ _ (λ e. omega arith)) ∙ cond-true (leb (rows xs) 256) _ _ (le-leb _ _ (s .few)))
 
 -- the row that is said is the lowest that is wrong
 pub lowest-row : (xs : List ℕ) (r : Refusal) → shaped xs ≡ true → rows-refusal xs ≡ Some r → (place-of r < rows xs) × (rows-ok xs (place-of r) ≡ true) × (row-ok xs (place-of r) ≡ false)

@@ -20,7 +20,7 @@ use Rattle.semantics.proofs.Members.{all-member}
 use Rattle.program.specs.Row.{named, own-place, row-in}
 use Rattle.program.specs.Rows.{rows, program-in, Valid}
 use Rattle.program.specs.Reach.{Reaches, itself, through, reached, marked}
-use Rattle.program.specs.Validation.{first-said, absent, row-place-refusal, places-refusal, places-taken, answered}
+use Rattle.program.specs.Validation.{first-said, absent, row-place-refusal, count-refusal, places-refusal, places-taken, answered}
 use Rattle.program.specs.Laws.{Lowest-absent}
 use Rattle.program.specs.declared.row.Row.{Row}
 use Rattle.program.specs.declared.refusal.Refusal.{Refusal}
@@ -88,9 +88,9 @@ module _ (xs : List ℕ) (n : ℕ) (v : Valid xs) where
       record {
         long = length-set (replicate 256 false) (rows xs - 1) true;
         sound =
-          λ k h.
-              ⊎-elim itself (λ ne. absurd (both-ways (getD (replicate 256 false) k false) (unmarked k) (sym (getD-set-other (replicate 256 false) (rows xs - 1) k true false ne) ∙ h)))
-              (cases-eq k (rows xs - 1));
+            λ k h.
+            ⊎-elim itself (λ ne. absurd (both-ways (getD (replicate 256 false) k false) (unmarked k) (sym (getD-set-other (replicate 256 false) (rows xs - 1) k true false ne) ∙ h)))
+            (cases-eq k (rows xs - 1));
         top = getD-set-same (replicate 256 false) (rows xs - 1) true false (omega arith);
         complete = λ j k a b h m. absurd (omega arith);
         rest = sym (or-nothing (first-said (row-place-refusal xs n) (rows xs)));
@@ -121,8 +121,8 @@ module _ (xs : List ℕ) (n : ℕ) (v : Valid xs) where
     flag false e =
         ⊎-elim
         (λ (h : reached xs i ≡ true).
-            let some : rows xs - 1 < rows xs = last-row xs v in
-            absurd (both-ways (getD t i false) (sym e) (marked-before some (omega (arith, l)) (p .top) (reached-decides xs v i .0 h))))
+        let some : rows xs - 1 < rows xs = last-row xs v in
+        absurd (both-ways (getD t i false) (sym e) (marked-before some (omega (arith, l)) (p .top) (reached-decides xs v i .0 h))))
         (λ h. h) (cases-bool (reached xs i))
 
     said : (o : Option Refusal) → o ≡ row-place-refusal xs n i → first-said (row-place-refusal xs n) (rows xs) ≡ orOther (first-said (row-place-refusal xs n) i) (orOther o found)
@@ -140,8 +140,8 @@ module _ (xs : List ℕ) (n : ℕ) (v : Valid xs) where
           sound = p .sound;
           top = p .top;
           complete =
-            λ j k a b g m.
-                ⊎-elim (λ e. absurd (both-ways (getD t i false) h (subst (λ (x : ℕ). getD t x false ≡ true) e g))) (λ ne. p .complete j k (above i j a ne) b g m) (cases-eq j i);
+              λ j k a b g m.
+              ⊎-elim (λ e. absurd (both-ways (getD t i false) h (subst (λ (x : ℕ). getD t x false ≡ true) e g))) (λ ne. p .complete j k (above i j a ne) b g m) (cases-eq j i);
           rest = said None (sym (cond-false (reached xs i) _ _ (flag false (sym h))));
         }
 
@@ -156,21 +156,19 @@ module _ (xs : List ℕ) (n : ℕ) (v : Valid xs) where
           sound = λ k g. ⊎-elim (p .sound k) (λ m. reaches-on xs i k (p .sound i h) (subst (λ (x : Row). List·Memᴰ k (named x)) e m)) (marked-only t (named r) k g);
           top = marked-keeps 256 t (named r) (rows xs - 1) (p .long) within (p .top);
           complete =
-            λ j k a b g m.
-                ⊎-elim (λ same. marked-has 256 t (named r) (p .long) within (subst (λ (x : Row). List·Memᴰ k (named x)) (ap (row-in xs) same ∙ sym e) m))
-                (λ ne.
-                    ⊎-elim (λ was. marked-keeps 256 t (named r) k (p .long) within (p .complete j k (above i j a ne) b was m))
-                    (λ mj. let g : j < i = all-member (λ j. j < i) (named r) before mj in absurd (omega arith))
-                    (marked-only t (named r) j g))
-                (cases-eq j i);
+              λ j k a b g m.
+              ⊎-elim (λ same. marked-has 256 t (named r) (p .long) within (subst (λ (x : Row). List·Memᴰ k (named x)) (ap (row-in xs) same ∙ sym e) m))
+              (λ ne.
+              ⊎-elim (λ was. marked-keeps 256 t (named r) k (p .long) within (p .complete j k (above i j a ne) b was m))
+              (λ mj. let g : j < i = all-member (λ j. j < i) (named r) before mj in absurd (omega arith))
+              (marked-only t (named r) j g))
+              (cases-eq j i);
           rest = said o (is ∙ ap (λ (x : Row). absent n i (own-place x)) e ∙ sym (cond-true (reached xs i) _ _ (flag true (sym h))));
         }
 
   -- after the pass
-  pub all-passed : (t : List Bool) (found o : Option Refusal) → Passed xs n 0 t found → o ≡ cond (leb n 1024) None (Some (TooManyPlaces n 1024)) → orOther found o ≡ places-refusal xs n
-  unfolding places-refusal
-  all-passed t found o p e =
-      (λ i. orOther (sym (p .rest ∙ ap (λ s. orOther s found) (said-none (row-place-refusal xs n))) i) (e i))
+  pub all-passed : (t : List Bool) (found : Option Refusal) → Passed xs n 0 t found → found ≡ first-said (row-place-refusal xs n) (rows xs)
+  all-passed t found p = sym (p .rest ∙ ap (λ s. orOther s found) (said-none (row-place-refusal xs n)))
 
 absent-none : (n i p : ℕ) (o : Option ℕ) → absent n i o ≡ None → o ≡ Some p → p < n
 absent-none n i p None a e = absurd (true≢false (sym (ap isSome e)))
@@ -194,9 +192,9 @@ module _ (xs : List ℕ) (n : ℕ) (v : Valid xs) where
   unsaid-fits e =
       reached-fits xs v n
       (λ k p r own.
-          let s : rows xs - 1 < rows xs = last-row xs v in
-          let b : k ≤ rows xs - 1 = reaches-back xs (rows xs) (v .order) k s r in
-          there k p (said-none-at (row-place-refusal xs n) (rows xs) k e (omega arith)) r own)
+      let s : rows xs - 1 < rows xs = last-row xs v in
+      let b : k ≤ rows xs - 1 = reaches-back xs (rows xs) (v .order) k s r in
+      there k p (said-none-at (row-place-refusal xs n) (rows xs) k e (omega arith)) r own)
 
   -- something said: of the lowest reached row that names a place that isn't there
   said-lowest : (r : Refusal) → first-said (row-place-refusal xs n) (rows xs) ≡ Some r → (k : ℕ) × (p : ℕ) × (r ≡ NoSuchPlace k p n) × Lowest-absent xs n k p
@@ -205,13 +203,17 @@ module _ (xs : List ℕ) (n : ℕ) (v : Valid xs) where
       let (k, l, here, before) = said-some-at (row-place-refusal xs n) (rows xs) r e in
       ⊎-elim
       (λ (h : reached xs k ≡ true).
-          let (p, own, missing, is) = absent-some n k r (own-place (row-in xs k)) (sym (cond-true (reached xs k) _ _ h) ∙ here) in
-          (k, p, is, record {
-            reaches = reached-decides xs v k .0 h;
-            own = own;
-            missing = missing;
-            lowest = λ j q lt reach mine. there j q (said-none-at (row-place-refusal xs n) k j before lt) reach mine;
-          }))
+      let (p, own, missing, is) = absent-some n k r (own-place (row-in xs k)) (sym (cond-true (reached xs k) _ _ h) ∙ here) in (
+        k,
+        p,
+        is,
+        record {
+          reaches = reached-decides xs v k .0 h;
+          own = own;
+          missing = missing;
+          lowest = λ j q lt reach mine. there j q (said-none-at (row-place-refusal xs n) k j before lt) reach mine;
+        },
+      ))
       (λ h. absurd (none-some r (sym (cond-false (reached xs k) _ _ h) ∙ here)))
       (cases-bool (reached xs k))
 
@@ -226,22 +228,19 @@ module _ (xs : List ℕ) (n : ℕ) (v : Valid xs) where
           absurd (omega (arith, fits-reached xs v n f k p (low .reaches) (low .own), low .missing))
 
   pub places-unfit : fits n (program-in xs) ≡ false → (k : ℕ) × (p : ℕ) × (places-refusal xs n ≡ Some (NoSuchPlace k p n)) × Lowest-absent xs n k p
-  unfolding places-refusal
   places-unfit f = go (first-said (row-place-refusal xs n) (rows xs)) refl
     where
       go : (o : Option Refusal) → first-said (row-place-refusal xs n) (rows xs) ≡ o → (k : ℕ) × (p : ℕ) × (places-refusal xs n ≡ Some (NoSuchPlace k p n)) × Lowest-absent xs n k p
       go None e = absurd (both-ways (fits n (program-in xs)) f (unsaid-fits e))
-      go (Some r) e = let (k, p, is, low) = said-lowest r e in (k, p, ap (λ o. orOther o (cond (leb n 1024) None (Some (TooManyPlaces n 1024)))) e ∙ ap Some is, low)
+      go (Some r) e = let (k, p, is, low) = said-lowest r e in (k, p, ap (λ o. orOther o (count-refusal n)) e ∙ ap Some is, low)
 
-  pub places-fit : fits n (program-in xs) ≡ true → places-refusal xs n ≡ cond (leb n 1024) None (Some (TooManyPlaces n 1024))
-  unfolding places-refusal
-  places-fit f = ap (λ o. orOther o (cond (leb n 1024) None (Some (TooManyPlaces n 1024)))) (fits-unsaid f)
+  pub places-fit : fits n (program-in xs) ≡ true → places-refusal xs n ≡ count-refusal n
+  places-fit f = ap (λ o. orOther o (count-refusal n)) (fits-unsaid f)
 
   -- no refusal: the program fits, and there are few places
   pub unrefused-fits : places-refusal xs n ≡ None → (fits n (program-in xs) ≡ true) × (leb n 1024 ≡ true)
-  unfolding places-refusal
   unrefused-fits e =
-      let p = or-none (first-said (row-place-refusal xs n) (rows xs)) (cond (leb n 1024) None (Some (TooManyPlaces n 1024))) e in
+      let p = or-none (first-said (row-place-refusal xs n) (rows xs)) (count-refusal n) e in
       (unsaid-fits (p .0), ⊎-elim (λ h. h) (λ h. absurd (none-some _ (sym (p .1) ∙ cond-false (leb n 1024) _ _ h))) (cases-bool (leb n 1024)))
 
   -- the number of refusal 2, where it applies

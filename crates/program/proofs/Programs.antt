@@ -41,7 +41,7 @@ same-depth xs n (suc f) zero i ok l h k = absurd (omega arith)
 same-depth xs n (suc f) (suc g) i ok l h k =
     program-at-step xs f i
     ∙ program-of-same (program-at xs f) (program-at xs g) (row-in xs i)
-      (all-weaker (λ j. j < i) (λ j. program-at xs f j ≡ program-at xs g j) (λ j e. same-depth xs n f g j ok (omega arith) (omega arith) (omega arith)) _ (names-earlier xs n i ok l))
+    (all-weaker (λ j. j < i) (λ j. program-at xs f j ≡ program-at xs g j) (λ j e. same-depth xs n f g j ok (omega arith) (omega arith) (omega arith)) _ (names-earlier xs n i ok l))
     ∙ sym (program-at-step xs g i)
 
 pub depth-does-not-matter : (xs : List ℕ) (n depth i : ℕ) → rows-ok xs n ≡ true → i < n → i < depth → program-at xs depth i ≡ at-row xs i
@@ -54,7 +54,7 @@ unfolding at-row
 at-row-is xs n i ok l =
     program-at-step xs i i
     ∙ program-of-same (program-at xs i) (at-row xs) (row-in xs i)
-      (all-weaker (λ j. j < i) (λ j. program-at xs i j ≡ at-row xs j) (λ j e. depth-does-not-matter xs n i j ok (omega arith) e) _ (names-earlier xs n i ok l))
+    (all-weaker (λ j. j < i) (λ j. program-at xs i j ≡ at-row xs j) (λ j e. depth-does-not-matter xs n i j ok (omega arith) e) _ (names-earlier xs n i ok l))
 
 -- the last row is the program
 pub program-in-is : (xs : List ℕ) → Valid xs → program-in xs ≡ at-row xs (rows xs - 1)
@@ -69,8 +69,15 @@ pub equations : (xs : List ℕ) (n i : ℕ) → rows-ok xs n ≡ true → i < n 
 unfolding decoded
 equations xs n i ok l =
     record {
-      kind-0 = of-kind xs n i 0 ok l; kind-1 = of-kind xs n i 1 ok l; kind-2 = of-kind xs n i 2 ok l; kind-3 = of-kind xs n i 3 ok l; kind-4 = of-kind xs n i 4 ok l;
-      kind-5 = of-kind xs n i 5 ok l; kind-6 = of-kind xs n i 6 ok l; kind-7 = of-kind xs n i 7 ok l; kind-8 = of-kind xs n i 8 ok l;
+      kind-0 = of-kind xs n i 0 ok l;
+      kind-1 = of-kind xs n i 1 ok l;
+      kind-2 = of-kind xs n i 2 ok l;
+      kind-3 = of-kind xs n i 3 ok l;
+      kind-4 = of-kind xs n i 4 ok l;
+      kind-5 = of-kind xs n i 5 ok l;
+      kind-6 = of-kind xs n i 6 ok l;
+      kind-7 = of-kind xs n i 7 ok l;
+      kind-8 = of-kind xs n i 8 ok l;
     }
 
 -- what is known of a row that is read

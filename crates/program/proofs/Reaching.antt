@@ -143,9 +143,9 @@ module _ (xs : List ℕ) (n : ℕ) (ok : rows-ok xs n ≡ true) where
   named-own p (suc d) i h l m =
       ⊎-elim (λ e. (i, itself refl, e))
       (λ f. let (j, mj, t) = f in
-          let g : j < i = member-earlier i j l mj in
-          let (k, r, e) = named-own p d j (omega arith) (omega arith) t in
-          (k, through j mj r, e))
+      let g : j < i = member-earlier i j l mj in
+      let (k, r, e) = named-own p d j (omega arith) (omega arith) t in
+      (k, through j mj r, e))
       (names-of p (at-row xs) (row-in xs i) (subst (λ (t : Program). names p t ≡ true) (at-row-is xs n i ok l) m))
 
 -- of a whole program: the last row

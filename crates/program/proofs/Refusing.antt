@@ -3,23 +3,22 @@ use mathlib.Core.Bool.{Bool, true, false, not, _&&_, _||_, cond}
 use mathlib.Core.List.{List, [], _∷_}
 use mathlib.Core.Logic.{_⊎_, inl, inr, ⊎-elim}
 use mathlib.Core.Path.{_≡_, refl, sym, ap, subst, _∙_}
-use Prim.Native.Nat.{ℕ, zero, suc, _+_, _*_, _/_, _%_, _<_, _≤_}
+use Prim.Native.Nat.{ℕ, zero, suc, _+_, _*_, _<_, _≤_}
 use lib.Dec.{ltb, leb, eqb}
 use lib.ListN.{length}
 use native.Mathlib.Numerals.{add-one}
 use native.Mathlib.Omega.{arith}
-use Rattle.std.proofs.shelf.Tests.{true≢false, false≢true, cond-true, cond-false, eq-eqb, ne-eqb, eqb-true, le-leb, lt-leb, leb-true, and-parts, not-false, not-from-false, cases-lt}
+use Rattle.std.proofs.shelf.Tests.{true≢false, false≢true, ne-eqb, eqb-true, le-leb, leb-true, and-parts, not-false, not-from-false, cases-lt}
 use Rattle.std.specs.Options.{isSome, mapped, orOther}
 use Rattle.std.specs.declared.option.Option.{Option}
 use Rattle.std.specs.declared.option.Option.the-variants.{Some, None}
 use Rattle.program.specs.Row.{kind, named, row-in}
 use Rattle.program.specs.Rows.{rows, row-ok, rows-ok, Valid}
-use Rattle.program.specs.Validation.{rows-taken, first-said, first-not-earlier, row-refusal, rows-refusal}
-use Rattle.program.specs.declared.row.Row.{Row}
+use Rattle.program.specs.Validation.{rows-taken, first-said, first-not-earlier, order-refusal, row-refusal, rows-refusal}
 use Rattle.program.specs.declared.refusal.Refusal.{Refusal}
-use Rattle.program.specs.declared.refusal.Refusal.the-variants.{CutShort, NoRows, TooManyRows, UnknownKind, NotEarlier}
+use Rattle.program.specs.declared.refusal.Refusal.the-variants.{NotEarlier}
 use Rattle.program.proofs.Earlier.{earlier, row-ok-is}
-use Rattle.program.proofs.Shape.{Shape, rows-is, shaped-from}
+use Rattle.program.proofs.Shape.{Shape, shaped-from}
 
 at-end : (i n : ℕ) → i ≤ suc n → (i ≡ suc n) ⊎ (i ≤ n)
 at-end i n h = ⊎-elim (λ l. inr (omega arith)) (λ l. inl (omega arith)) (cases-lt i (suc n))
@@ -88,9 +87,13 @@ not-both true false = refl
 not-both false true = refl
 not-both false false = refl
 
-some-by : {A : Type 0} (t e : Bool) (o : Option A) (x : A) → isSome o ≡ not e → isSome (cond t o (Some x)) ≡ not (t && e)
-some-by true e o x h = h
-some-by false e o x h = refl
+later-by : (t e : Bool) (o : Option ℕ) (j : ℕ) → isSome o ≡ not e → isSome (cond t o (Some j)) ≡ not (t && e)
+later-by true e o j h = h
+later-by false e o j h = refl
+
+kind-by : (t e : Bool) (o : Option Refusal) (x : Refusal) → isSome o ≡ not e → isSome (orOther (cond t None (Some x)) o) ≡ not (t && e)
+kind-by true e o x h = h
+kind-by false e o x h = refl
 
 some-mapped : {A B : Type 0} (f : A → B) (o : Option A) → isSome (mapped f o) ≡ isSome o
 some-mapped f None = refl
@@ -98,14 +101,14 @@ some-mapped f (Some x) = refl
 
 later-some : (i : ℕ) (js : List ℕ) → isSome (first-not-earlier i js) ≡ not (earlier i js)
 later-some i [] = refl
-later-some i (j ∷ js) = some-by (ltb j i) (earlier i js) (first-not-earlier i js) j (later-some i js)
+later-some i (j ∷ js) = later-by (ltb j i) (earlier i js) (first-not-earlier i js) j (later-some i js)
 
 -- something is said of a row exactly where it isn't right
 pub row-refusal-some : (xs : List ℕ) (i : ℕ) → isSome (row-refusal xs i) ≡ not (row-ok xs i)
 unfolding row-refusal
 row-refusal-some xs i =
-    some-by (leb (kind xs i) 8) (earlier i (named (row-in xs i))) (mapped (NotEarlier i) (first-not-earlier i (named (row-in xs i)))) _
-      (some-mapped (NotEarlier i) (first-not-earlier i (named (row-in xs i))) ∙ later-some i (named (row-in xs i)))
+    kind-by (leb (kind xs i) 8) (earlier i (named (row-in xs i))) (order-refusal i (named (row-in xs i))) _
+    (some-mapped (NotEarlier i) (first-not-earlier i (named (row-in xs i))) ∙ later-some i (named (row-in xs i)))
     ∙ ap not (sym (row-ok-is xs i))
 
 pub scan-some : (xs : List ℕ) (n : ℕ) → isSome (first-said (row-refusal xs) n) ≡ not (rows-ok xs n)
@@ -119,7 +122,7 @@ one-or-more zero = refl
 one-or-more (suc n) = le-leb 1 (suc n) (omega arith) ∙ sym (not-from-false _ (ne-eqb (suc n) 0 (λ e. omega arith)))
 
 shape-some : (whole none few ok : Bool) (o : Option Refusal) (x y z : Refusal) → isSome o ≡ not ok →
-    isSome (cond whole (cond none (Some x) (cond few o (Some y))) (Some z)) ≡ not (whole && (not none && (few && ok)))
+    isSome (orOther (cond whole (cond none (Some x) (cond few None (Some y))) (Some z)) o) ≡ not (whole && (not none && (few && ok)))
 shape-some true true few ok o x y z h = refl
 shape-some true false true ok o x y z h = h
 shape-some true false false ok o x y z h = refl
@@ -127,7 +130,7 @@ shape-some false none few ok o x y z h = refl
 
 -- refusal number 1 applies exactly where the rows aren't taken
 pub rows-refusal-some : (xs : List ℕ) → isSome (rows-refusal xs) ≡ not (rows-taken xs)
-unfolding rows-refusal rows-taken
+unfolding rows-taken
 rows-refusal-some xs =
     shape-some (eqb (length xs) (4 * rows xs)) (eqb (rows xs) 0) (leb (rows xs) 256) (rows-ok xs (rows xs)) (first-said (row-refusal xs) (rows xs)) _ _ _ (scan-some xs (rows xs))
     ∙ ap (λ t. not (eqb (length xs) (4 * rows xs) && (t && (leb (rows xs) 256 && rows-ok xs (rows xs))))) (sym (one-or-more (rows xs)))
@@ -144,42 +147,3 @@ taken-valid xs h =
 -- and so are rows that get no refusal
 pub unrefused-valid : (xs : List ℕ) → rows-refusal xs ≡ None → Valid xs
 unrefused-valid xs e = taken-valid xs (not-false (rows-taken xs) (sym (rows-refusal-some xs) ∙ ap isSome e))
-
--- the refusals of rows out of shape, by the count of numbers
-module _ (xs : List ℕ) where
-  pub cut-short : (length xs % 4 ≡ 0 → ⊥) → Some (CutShort (length xs / 4) (length xs)) ≡ rows-refusal xs
-  unfolding rows-refusal
-  cut-short h =
-      ap (λ n. Some (CutShort n (length xs))) (sym (rows-is xs)) ∙ sym (cond-false (eqb (length xs) (4 * rows xs)) _ _ (ne-eqb _ _ (λ e. h (omega (arith, rows-is xs)))))
-
-  whole-rows : length xs % 4 ≡ 0 → eqb (length xs) (4 * rows xs) ≡ true
-  whole-rows h = eq-eqb _ _ (omega (arith, rows-is xs))
-
-  pub no-rows : length xs % 4 ≡ 0 → length xs / 4 ≡ 0 → Some NoRows ≡ rows-refusal xs
-  unfolding rows-refusal
-  no-rows h z = sym (cond-true _ _ _ (whole-rows h) ∙ cond-true (eqb (rows xs) 0) _ _ (eq-eqb _ _ (rows-is xs ∙ z)))
-
-  some-rows : 0 < length xs / 4 → eqb (rows xs) 0 ≡ false
-  some-rows h = ne-eqb _ _ (λ e. omega (arith, rows-is xs))
-
-  pub too-many-rows : length xs % 4 ≡ 0 → 256 < length xs / 4 → Some (TooManyRows (length xs / 4) 256) ≡ rows-refusal xs
-  unfolding rows-refusal
-  too-many-rows h l =
-      ap (λ n. Some (TooManyRows n 256)) (sym (rows-is xs))
-      ∙ sym (cond-true _ _ _ (whole-rows h) ∙ cond-false _ _ _ (some-rows (omega arith)) ∙ cond-false (leb (rows xs) 256) _ _ (lt-leb _ _ (omega (arith, rows-is xs))))
-
-  pub scanned-rows : (o : Option Refusal) → length xs % 4 ≡ 0 → 0 < length xs / 4 → length xs / 4 ≤ 256 → o ≡ first-said (row-refusal xs) (length xs / 4) → o ≡ rows-refusal xs
-  unfolding rows-refusal
-  scanned-rows o h l k e =
-      e ∙ ap (first-said (row-refusal xs)) (sym (rows-is xs))
-      ∙ sym (cond-true _ _ _ (whole-rows h) ∙ cond-false _ _ _ (some-rows l) ∙ cond-true (leb (rows xs) 256) _ _ (le-leb _ _ (omega (arith, rows-is xs))))
-
--- what is said of one row, by its kind and by the rows that it names
-pub unknown-kind : (xs : List ℕ) (i : ℕ) → 8 < kind xs i → Some (UnknownKind i (kind xs i) 8) ≡ row-refusal xs i
-unfolding row-refusal
-unknown-kind xs i h = sym (cond-false (leb (kind xs i) 8) _ _ (lt-leb (kind xs i) 8 h))
-
-pub known-kind : (xs : List ℕ) (i : ℕ) (o : Option ℕ) (js : List ℕ) (r : Row) → kind xs i ≤ 8 → o ≡ first-not-earlier i js → js ≡ named r → r ≡ row-in xs i → mapped (NotEarlier i) o ≡ row-refusal xs i
-unfolding row-refusal
-known-kind xs i o js r h e f g =
-    ap (mapped (NotEarlier i)) (e ∙ ap (first-not-earlier i) (f ∙ ap named g)) ∙ sym (cond-true (leb (kind xs i) 8) _ _ (le-leb (kind xs i) 8 h))

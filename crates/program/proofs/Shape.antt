@@ -1,26 +1,22 @@
 -- How many rows so many numbers are, and what rows in shape give. Assumes nothing.
 use mathlib.Core.Bool.{Bool, true}
 use mathlib.Core.List.{List}
-use mathlib.Core.Path.{_≡_, refl, ap, _∙_}
-use Prim.Native.Nat.{ℕ, zero, suc, _+_, _*_, _-_, _/_, _<_, _≤_}
+use mathlib.Core.Path.{_≡_, refl}
+use Prim.Native.Nat.{ℕ, zero, suc, _+_, _*_, _/_, _<_, _≤_}
 use lib.Dec.{leb, eqb}
 use lib.ListN.{length}
 use native.Mathlib.Omega.{arith}
 use Rattle.std.proofs.shelf.Tests.{and-parts, and-from, eqb-true, eq-eqb, leb-true, le-leb}
-use Rattle.program.specs.Rows.{divided, rows, shaped}
+use Rattle.program.specs.Rows.{by-fours, rows, shaped}
 
 -- counted by fours, and divided
-divided-is : (n : ℕ) → divided n ≡ n / 4
-unfolding divided
-divided-is zero = refl
-divided-is (suc zero) = refl
-divided-is (suc (suc zero)) = refl
-divided-is (suc (suc (suc zero))) = refl
-divided-is (suc (suc (suc (suc n)))) = let h : divided n ≡ n / 4 = divided-is n in omega arith
-
-pub rows-is : (xs : List ℕ) → rows xs ≡ length xs / 4
-unfolding rows
-rows-is xs = divided-is (length xs)
+pub fours : (n : ℕ) → n / 4 ≡ by-fours n
+unfolding by-fours
+fours zero = refl
+fours (suc zero) = refl
+fours (suc (suc zero)) = refl
+fours (suc (suc (suc zero))) = refl
+fours (suc (suc (suc (suc n)))) = let h : n / 4 ≡ by-fours n = fours n in omega arith
 
 -- 1 to 256 rows of four numbers
 pub record Shape (xs : List ℕ) : Type 0 where

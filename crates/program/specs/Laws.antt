@@ -1,19 +1,23 @@
 -- What holds of programs in rows: statements, each on the contract of a function of src/laws.rt.
-use mathlib.Core.Bool.{true, false, cond}
+use mathlib.Core.Bool.{true, false}
 use mathlib.Core.List.{List}
 use mathlib.Core.Path.{_≡_}
 use Prim.Native.Nat.{ℕ, _-_, _<_, _≤_}
-use lib.Dec.{leb}
+use lib.ListN.{length}
 use Rattle.std.specs.Orderings.{Decides}
-use Rattle.std.specs.declared.option.Option.the-variants.{Some, None}
+use Rattle.std.specs.declared.option.Option.the-variants.{Some}
 use Rattle.semantics.specs.Program.{Program, constant, place, added, times, less, set, after, if-not-nought, again, fits, names, Within}
 use Rattle.program.specs.Row.{kind, first, second, third, row-in, own-place}
-use Rattle.program.specs.Rows.{rows, rows-ok, row-ok, shaped, program-at, program-in, at-row, Valid}
+use Rattle.program.specs.Rows.{rows, by-fours, rows-ok, row-ok, shaped, program-at, program-in, at-row, Valid}
 use Rattle.program.specs.Reach.{Reaches, reached}
 use Rattle.program.specs.Refusal.{place-of}
-use Rattle.program.specs.Validation.{rows-refusal, places-refusal}
+use Rattle.program.specs.Validation.{answered, refusal-number, rows-refusal, count-refusal, places-refusal, program-refusal}
 use Rattle.program.specs.declared.refusal.Refusal.{Refusal}
-use Rattle.program.specs.declared.refusal.Refusal.the-variants.{NoSuchPlace, TooManyPlaces}
+use Rattle.program.specs.declared.refusal.Refusal.the-variants.{NoSuchPlace}
+
+-- numbers are as many rows as there are fours among them
+abbrev pub Rows-by-fours : Type 0
+Rows-by-fours = (xs : List ℕ) → rows xs ≡ by-fours (length xs)
 
 -- the depth to which a row is read doesn't matter, once it exceeds the row's number
 abbrev pub Depth-does-not-matter : Type 0
@@ -54,6 +58,10 @@ abbrev pub Fits-what-is-reached : Type 0
 Fits-what-is-reached =
     (xs : List ℕ) (n : ℕ) → Valid xs → Decides (fits n (program-in xs)) ((k p : ℕ) → Reaches xs k (rows xs - 1) → own-place (row-in xs k) ≡ Some p → p < n)
 
+-- the refusal that is answered has the number that the rules give
+abbrev pub Answered-by-number : Type 0
+Answered-by-number = (xs : List ℕ) (n : ℕ) → answered (program-refusal xs n) ≡ refusal-number xs n
+
 -- of rows in shape, the row that a refusal says is the lowest that is wrong
 abbrev pub Lowest-row : Type 0
 Lowest-row =
@@ -72,4 +80,4 @@ abbrev pub Lowest-place : Type 0
 Lowest-place =
     (xs : List ℕ) (n : ℕ) → Valid xs →
     (fits n (program-in xs) ≡ false → (k : ℕ) × (p : ℕ) × (places-refusal xs n ≡ Some (NoSuchPlace k p n)) × Lowest-absent xs n k p) ×
-    (fits n (program-in xs) ≡ true → places-refusal xs n ≡ cond (leb n 1024) None (Some (TooManyPlaces n 1024)))
+    (fits n (program-in xs) ≡ true → places-refusal xs n ≡ count-refusal n)

@@ -2,25 +2,25 @@
 use mathlib.Core.Bool.{Bool, true, _&&_, cond}
 use mathlib.Core.List.{List}
 use mathlib.Core.Path.{_≡_}
-use Prim.Native.Nat.{ℕ, zero, suc, _+_, _*_, _-_}
+use Prim.Native.Nat.{ℕ, zero, suc, _*_, _-_, _/_}
 use lib.Dec.{ltb, leb, eqb}
-use lib.ListN.{length, getD}
+use lib.ListN.{length}
 use Rattle.semantics.specs.Program.{Program, constant, place, added, times, less, set, after, if-not-nought, again}
-use Rattle.program.specs.Row.{kind, first, second, third, by-kind, row-in}
+use Rattle.program.specs.Row.{kind, first, second, third, by-kind}
 use Rattle.program.specs.declared.row.Row.{Row}
 use Rattle.program.specs.declared.row.Row.the-variants.{Constant, Place, Add, Multiply, Less, Store, Sequence, Choice, Loop}
 
--- how often four goes into a number
-unfoldable pub divided : ℕ → ℕ
-divided zero = 0
-divided (suc zero) = 0
-divided (suc (suc zero)) = 0
-divided (suc (suc (suc zero))) = 0
-divided (suc (suc (suc (suc n)))) = suc (divided n)
-
 -- how many rows so many numbers are
-unfoldable pub rows : List ℕ → ℕ
-rows xs = divided (length xs)
+abbrev pub rows : List ℕ → ℕ
+rows xs = length xs / 4
+
+-- the same, counted by fours
+unfoldable pub by-fours : ℕ → ℕ
+by-fours zero = 0
+by-fours (suc zero) = 0
+by-fours (suc (suc zero)) = 0
+by-fours (suc (suc (suc zero))) = 0
+by-fours (suc (suc (suc (suc n)))) = suc (by-fours n)
 
 -- the program of a row, over the programs of the rows that it names. 0 a number; 1 a place; 2, 3, 4 two rows added, multiplied,
 -- compared; 5 a place and a row; 6 two rows, one after the other; 7 three rows; 8 a limit and two rows
@@ -42,10 +42,10 @@ program-in xs = program-at xs (rows xs) (rows xs - 1)
 unfoldable pub numbers-ok : (i k a b c : ℕ) → Bool
 numbers-ok i k a b c =
     cond (leb k 1) true
-      (cond (eqb k 5) (ltb b i)
-        (cond (eqb k 8) (ltb b i && ltb c i)
-          (cond (eqb k 7) (ltb a i && (ltb b i && ltb c i))
-            (leb k 8 && (ltb a i && ltb b i)))))
+    (cond (eqb k 5) (ltb b i)
+    (cond (eqb k 8) (ltb b i && ltb c i)
+    (cond (eqb k 7) (ltb a i && (ltb b i && ltb c i))
+    (leb k 8 && (ltb a i && ltb b i)))))
 
 -- row i is of a kind there is, and names earlier rows only
 unfoldable pub row-ok : List ℕ → ℕ → Bool

@@ -42,16 +42,25 @@ abbrev pub first-not-earlier : ℕ → List ℕ → Option ℕ
 first-not-earlier i [] = None
 first-not-earlier i (j ∷ js) = cond (ltb j i) (first-not-earlier i js) (Some j)
 
--- of row i: a kind there isn't, or else the first row it names that isn't earlier
-unfoldable pub row-refusal : List ℕ → ℕ → Option Refusal
-row-refusal xs i = cond (leb (kind xs i) 8) (mapped (NotEarlier i) (first-not-earlier i (named (row-in xs i)))) (Some (UnknownKind i (kind xs i) 8))
+-- row i is of a kind that there isn't
+abbrev pub kind-refusal : (i kind : ℕ) → Option Refusal
+kind-refusal i k = cond (leb k 8) None (Some (UnknownKind i k 8))
 
--- number 1: a row that is cut short, no row, too many rows, or else the lowest row that is wrong
-unfoldable pub rows-refusal : List ℕ → Option Refusal
-rows-refusal xs =
-    cond (eqb (length xs) (4 * rows xs))
-      (cond (eqb (rows xs) 0) (Some NoRows) (cond (leb (rows xs) 256) (first-said (row-refusal xs) (rows xs)) (Some (TooManyRows (rows xs) 256))))
-      (Some (CutShort (rows xs) (length xs)))
+-- row i names a row that isn't earlier: the first such
+abbrev pub order-refusal : ℕ → (named : List ℕ) → Option Refusal
+order-refusal i js = mapped (NotEarlier i) (first-not-earlier i js)
+
+-- of row i: its kind, or else the rows that it names
+unfoldable pub row-refusal : List ℕ → ℕ → Option Refusal
+row-refusal xs i = orOther (kind-refusal i (kind xs i)) (order-refusal i (named (row-in xs i)))
+
+-- so many numbers aren't 1 to 256 rows of four: one is cut short, there is none, or there are too many
+abbrev pub shape-refusal : (count rows : ℕ) → Option Refusal
+shape-refusal n r = cond (eqb n (4 * r)) (cond (eqb r 0) (Some NoRows) (cond (leb r 256) None (Some (TooManyRows r 256)))) (Some (CutShort r n))
+
+-- number 1: the shape, or else the lowest row that is wrong
+abbrev pub rows-refusal : List ℕ → Option Refusal
+rows-refusal xs = orOther (shape-refusal (length xs) (rows xs)) (first-said (row-refusal xs) (rows xs))
 
 -- row i names a place that isn't among n
 abbrev pub absent : (n i : ℕ) → Option ℕ → Option Refusal
@@ -62,10 +71,14 @@ absent n i (Some p) = cond (ltb p n) None (Some (NoSuchPlace i p n))
 unfoldable pub row-place-refusal : List ℕ → (places : ℕ) → ℕ → Option Refusal
 row-place-refusal xs n i = cond (reached xs i) (absent n i (own-place (row-in xs i))) None
 
--- number 2: the place that the lowest such row names, or else too many places
-unfoldable pub places-refusal : List ℕ → (places : ℕ) → Option Refusal
-places-refusal xs n = orOther (first-said (row-place-refusal xs n) (rows xs)) (cond (leb n 1024) None (Some (TooManyPlaces n 1024)))
+-- there are too many places
+abbrev pub count-refusal : (places : ℕ) → Option Refusal
+count-refusal n = cond (leb n 1024) None (Some (TooManyPlaces n 1024))
+
+-- number 2: the place that the lowest such row names, or else the count
+abbrev pub places-refusal : List ℕ → (places : ℕ) → Option Refusal
+places-refusal xs n = orOther (first-said (row-place-refusal xs n) (rows xs)) (count-refusal n)
 
 -- the first refusal of a program in rows and so many places
-unfoldable pub program-refusal : List ℕ → (places : ℕ) → Option Refusal
+abbrev pub program-refusal : List ℕ → (places : ℕ) → Option Refusal
 program-refusal xs n = orOther (rows-refusal xs) (places-refusal xs n)

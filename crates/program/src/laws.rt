@@ -1,5 +1,12 @@
 // The laws of programs in rows: each function carries one, so that the check demands its proof.
-ghost use Rattle.program.specs.Laws.{Depth-does-not-matter, Rows-stand-for-programs, Reach-is-membership, Reached-is-reach, Names-what-is-reached, Fits-what-is-reached, Lowest-row, Lowest-place};
+ghost use Rattle.program.specs.Laws.{Rows-by-fours, Depth-does-not-matter, Rows-stand-for-programs, Reach-is-membership, Reached-is-reach, Names-what-is-reached, Fits-what-is-reached, Answered-by-number, Lowest-row, Lowest-place};
+
+// Numbers are as many rows as there are fours among them.
+pub fn rows_by_fours() -> u8
+    ensures { λ _. ⌜ Rows-by-fours ⌝ }
+{
+    0
+}
 
 // The depth to which a row is read doesn't matter, once it exceeds the row's number.
 pub fn depth_does_not_matter() -> u8
@@ -39,6 +46,13 @@ pub fn names_what_is_reached() -> u8
 // A program fits so many places exactly if each place that a reached row names by itself is one of them.
 pub fn fits_what_is_reached() -> u8
     ensures { λ _. ⌜ Fits-what-is-reached ⌝ }
+{
+    0
+}
+
+// The refusal that `validate` answers has the number that the rules give, and none is answered where they give none.
+pub fn answered_by_number() -> u8
+    ensures { λ _. ⌜ Answered-by-number ⌝ }
 {
     0
 }

@@ -1,7 +1,8 @@
 // Which rows the last row reaches, marked in a table of fixed size from the last row back.
-ghost use mathlib.Core.Bool.{true};
+ghost use mathlib.Core.Bool.{false};
 ghost use mathlib.Core.Path.{_≡_};
 ghost use Prim.Native.Nat.{_<_};
+ghost use lib.ListN.{replicate};
 ghost use Rattle.std.specs.shelf.Lists.{All};
 ghost use Rattle.program.specs.Row.{named-rows};
 ghost use Rattle.program.specs.Reach.{marked};
@@ -9,7 +10,14 @@ use crate::limits::MAX_ROWS;
 use crate::row::Named;
 
 // A flag for each row a program may have.
-type Table = [bool; MAX_ROWS];
+pub(crate) type Table = [bool; MAX_ROWS];
+
+// A table with no row marked.
+pub(crate) fn unmarked() -> Table
+    ensures { λ r. ⌜ r ≡ replicate 256 false ⌝ }
+{
+    [false; MAX_ROWS]
+}
 
 // Marks the rows that a row names.
 pub(crate) fn mark(table: &mut Table, rows: Named)

@@ -5,25 +5,52 @@ ghost use Rattle.program.specs.Refusal.{number-of, place-of};
 #[derive(Clone, Copy, Debug, PartialEq)]
 pub enum Refusal {
     // Number 1: the `count` numbers aren't rows of four, since `row` is cut short.
-    CutShort { row: usize, count: usize },
+    CutShort {
+        row: usize,
+        count: usize,
+    },
     // Number 1: there is no row.
     NoRows,
     // Number 1: there are more rows than a program may have.
-    TooManyRows { count: usize, limit: usize },
+    TooManyRows {
+        count: usize,
+        limit: usize,
+    },
     // Number 1: `row` is of a kind above the greatest there is.
-    UnknownKind { row: usize, kind: u32, limit: u32 },
+    UnknownKind {
+        row: usize,
+        kind: u32,
+        limit: u32,
+    },
     // Number 1: `row` names a row that isn't earlier.
-    NotEarlier { row: usize, named: usize },
+    NotEarlier {
+        row: usize,
+        named: usize,
+    },
     // Number 2: `row`, which the last row reaches, names a place that isn't among the `count` there are.
-    NoSuchPlace { row: usize, place: usize, count: usize },
+    NoSuchPlace {
+        row: usize,
+        place: usize,
+        count: usize,
+    },
     // Number 2: there are more places than a program may work on.
-    TooManyPlaces { count: usize, limit: usize },
+    TooManyPlaces {
+        count: usize,
+        limit: usize,
+    },
     // Number 3: the price is above the limit.
-    TooDear { limit: u64 },
+    TooDear {
+        limit: u64,
+    },
     // Number 4: the room is of another length than the places.
-    RoomLength { length: usize, places: usize },
+    RoomLength {
+        length: usize,
+        places: usize,
+    },
     // Number 5: the text can't be read at `line`, which counts from 0.
-    Unreadable { line: usize },
+    Unreadable {
+        line: usize,
+    },
 }
 
 impl Refusal {
@@ -35,12 +62,23 @@ impl Refusal {
             Refusal::CutShort { row: _, count: _ } => 1,
             Refusal::NoRows => 1,
             Refusal::TooManyRows { count: _, limit: _ } => 1,
-            Refusal::UnknownKind { row: _, kind: _, limit: _ } => 1,
+            Refusal::UnknownKind {
+                row: _,
+                kind: _,
+                limit: _,
+            } => 1,
             Refusal::NotEarlier { row: _, named: _ } => 1,
-            Refusal::NoSuchPlace { row: _, place: _, count: _ } => 2,
+            Refusal::NoSuchPlace {
+                row: _,
+                place: _,
+                count: _,
+            } => 2,
             Refusal::TooManyPlaces { count: _, limit: _ } => 2,
             Refusal::TooDear { limit: _ } => 3,
-            Refusal::RoomLength { length: _, places: _ } => 4,
+            Refusal::RoomLength {
+                length: _,
+                places: _,
+            } => 4,
             Refusal::Unreadable { line: _ } => 5,
         }
     }
@@ -53,9 +91,17 @@ impl Refusal {
             Refusal::CutShort { row, count: _ } => row as u64,
             Refusal::NoRows => 0,
             Refusal::TooManyRows { count: _, limit } => limit as u64,
-            Refusal::UnknownKind { row, kind: _, limit: _ } => row as u64,
+            Refusal::UnknownKind {
+                row,
+                kind: _,
+                limit: _,
+            } => row as u64,
             Refusal::NotEarlier { row, named: _ } => row as u64,
-            Refusal::NoSuchPlace { row: _, place, count: _ } => place as u64,
+            Refusal::NoSuchPlace {
+                row: _,
+                place,
+                count: _,
+            } => place as u64,
             Refusal::TooManyPlaces { count: _, limit } => limit as u64,
             Refusal::TooDear { limit: _ } => 0,
             Refusal::RoomLength { length, places: _ } => length as u64,

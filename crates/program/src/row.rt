@@ -20,15 +20,42 @@ use crate::limits::ROW_LENGTH;
 // | 8 | limit, count, body | count; then body so often, but limit times at most, 1 more for each time: what body came to last, or 0 |
 #[derive(Clone, Copy, Debug, PartialEq)]
 pub enum Row {
-    Constant { value: u32 },
-    Place { place: usize },
-    Add { left: usize, right: usize },
-    Multiply { left: usize, right: usize },
-    Less { left: usize, right: usize },
-    Store { place: usize, value: usize },
-    Sequence { first: usize, second: usize },
-    Choice { condition: usize, then: usize, otherwise: usize },
-    Loop { limit: u32, count: usize, body: usize },
+    Constant {
+        value: u32,
+    },
+    Place {
+        place: usize,
+    },
+    Add {
+        left: usize,
+        right: usize,
+    },
+    Multiply {
+        left: usize,
+        right: usize,
+    },
+    Less {
+        left: usize,
+        right: usize,
+    },
+    Store {
+        place: usize,
+        value: usize,
+    },
+    Sequence {
+        first: usize,
+        second: usize,
+    },
+    Choice {
+        condition: usize,
+        then: usize,
+        otherwise: usize,
+    },
+    Loop {
+        limit: u32,
+        count: usize,
+        body: usize,
+    },
 }
 
 // The rows that a row names, in the order in which it names them.
@@ -54,13 +81,36 @@ impl Row {
         match kind {
             0 => Row::Constant { value: a },
             1 => Row::Place { place: a as usize },
-            2 => Row::Add { left: a as usize, right: b as usize },
-            3 => Row::Multiply { left: a as usize, right: b as usize },
-            4 => Row::Less { left: a as usize, right: b as usize },
-            5 => Row::Store { place: a as usize, value: b as usize },
-            6 => Row::Sequence { first: a as usize, second: b as usize },
-            7 => Row::Choice { condition: a as usize, then: b as usize, otherwise: c as usize },
-            _ => Row::Loop { limit: a, count: b as usize, body: c as usize },
+            2 => Row::Add {
+                left: a as usize,
+                right: b as usize,
+            },
+            3 => Row::Multiply {
+                left: a as usize,
+                right: b as usize,
+            },
+            4 => Row::Less {
+                left: a as usize,
+                right: b as usize,
+            },
+            5 => Row::Store {
+                place: a as usize,
+                value: b as usize,
+            },
+            6 => Row::Sequence {
+                first: a as usize,
+                second: b as usize,
+            },
+            7 => Row::Choice {
+                condition: a as usize,
+                then: b as usize,
+                otherwise: c as usize,
+            },
+            _ => Row::Loop {
+                limit: a,
+                count: b as usize,
+                body: c as usize,
+            },
         }
     }
 
@@ -76,8 +126,16 @@ impl Row {
             Row::Less { left, right } => Named::Two(left, right),
             Row::Store { place: _, value } => Named::One(value),
             Row::Sequence { first, second } => Named::Two(first, second),
-            Row::Choice { condition, then, otherwise } => Named::Three(condition, then, otherwise),
-            Row::Loop { limit: _, count, body } => Named::Two(count, body),
+            Row::Choice {
+                condition,
+                then,
+                otherwise,
+            } => Named::Three(condition, then, otherwise),
+            Row::Loop {
+                limit: _,
+                count,
+                body,
+            } => Named::Two(count, body),
         }
     }
 

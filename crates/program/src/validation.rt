@@ -2,17 +2,18 @@
 ghost use mathlib.Core.Bool.{cond};
 ghost use mathlib.Core.Path.{_≡_};
 ghost use Prim.Native.Nat.{_+_, _*_, _≤_};
-ghost use lib.Dec.{ltb, leb};
+ghost use lib.Dec.{ltb};
 ghost use lib.ListN.{length};
-ghost use Rattle.std.specs.declared.option.Option.the-variants.{Some, None};
-ghost use Rattle.program.specs.Row.{named-rows, own-place};
-ghost use Rattle.program.specs.Validation.{first-not-earlier, row-refusal, rows-refusal, absent, places-refusal, program-refusal, refusal-number, answered};
-ghost use Rattle.program.specs.declared.refusal.Refusal.the-variants.{TooManyPlaces};
+ghost use Rattle.std.specs.declared.option.Option.the-variants.{Some};
+ghost use Rattle.program.specs.Row.{named-rows};
+ghost use Rattle.program.specs.Rows.{rows};
+ghost use Rattle.program.specs.Validation.{first-said, first-not-earlier, kind-refusal, order-refusal, row-refusal, shape-refusal, rows-refusal, absent, row-place-refusal, count-refusal, places-refusal, program-refusal};
 use crate::limits::MAX_KIND;
 use crate::limits::MAX_PLACES;
 use crate::limits::MAX_ROWS;
 use crate::limits::ROW_LENGTH;
 use crate::reach::mark;
+use crate::reach::unmarked;
 use crate::refusal::Refusal;
 use crate::row::Named;
 use crate::row::Row;
@@ -33,7 +34,36 @@ fn not_earlier(row: usize, rows: Named) -> Option<usize>
         Named::Nothing => None,
         Named::One(a) => first_later(row, a, None),
         Named::Two(a, b) => first_later(row, a, first_later(row, b, None)),
-        Named::Three(a, b, c) => first_later(row, a, first_later(row, b, first_later(row, c, None))),
+        Named::Three(a, b, c) => first_later(
+            row,
+            a,
+            first_later(row, b, first_later(row, c, None)),
+        ),
+    }
+}
+
+// A row of a kind that there isn't.
+fn kind_refusal(row: usize, kind: u32) -> Option<Refusal>
+    ensures { λ r. ⌜ r ≡ kind-refusal row kind ⌝ }
+{
+    if kind <= MAX_KIND {
+        None
+    } else {
+        Some(Refusal::UnknownKind {
+            row,
+            kind,
+            limit: MAX_KIND,
+        })
+    }
+}
+
+// A row that names one that isn't earlier.
+fn order_refusal(row: usize, rows: Named) -> Option<Refusal>
+    ensures { λ r. ⌜ r ≡ order-refusal row (named-rows rows) ⌝ }
+{
+    match not_earlier(row, rows) {
+        Some(named) => Some(Refusal::NotEarlier { row, named }),
+        None => None,
     }
 }
 
@@ -43,30 +73,14 @@ fn row_refusal(numbers: &[u32], row: usize) -> Option<Refusal>
     ensures { λ r. ⌜ r ≡ row-refusal (now (numbers .entry)) row ⌝ }
 {
     let kind = numbers[ROW_LENGTH * row];
-    if kind > MAX_KIND {
-        return Some(Refusal::UnknownKind { row, kind, limit: MAX_KIND });
-    }
-    match not_earlier(row, Row::decode(numbers, row).named()) {
-        Some(named) => Some(Refusal::NotEarlier { row, named }),
-        None => None,
-    }
+    kind_refusal(row, kind).or(order_refusal(row, Row::decode(numbers, row).named()))
 }
 
-// Refusal number 1, if it applies: numbers that aren't a program in rows, with the lowest row that is wrong.
-pub fn rows_refusal(numbers: &[u32]) -> Option<Refusal>
-    ensures { λ r. ⌜ r ≡ rows-refusal (now (numbers .entry)) ⌝ }
+// What is wrong with the first of so many rows that is.
+fn scan_refusal(numbers: &[u32], rows: usize) -> Option<Refusal>
+    requires { ⌜ 4 * rows ≤ length (now numbers) ⌝ }
+    ensures { λ r. ⌜ r ≡ first-said (row-refusal (now (numbers .entry))) rows ⌝ }
 {
-    let count = numbers.len();
-    let rows = count / ROW_LENGTH;
-    if count % ROW_LENGTH != 0 {
-        return Some(Refusal::CutShort { row: rows, count });
-    }
-    if rows == 0 {
-        return Some(Refusal::NoRows);
-    }
-    if rows > MAX_ROWS {
-        return Some(Refusal::TooManyRows { count: rows, limit: MAX_ROWS });
-    }
     for row in 0..rows {
         let refusal = row_refusal(numbers, row);
         if refusal.is_some() {
@@ -74,6 +88,36 @@ pub fn rows_refusal(numbers: &[u32]) -> Option<Refusal>
         }
     }
     None
+}
+
+// Numbers that aren't 1 to 256 rows of four.
+fn shape_refusal(count: usize, rows: usize) -> Option<Refusal>
+    requires { ⌜ 4 * rows ≤ count ⌝ }
+    ensures { λ r. ⌜ r ≡ shape-refusal count rows ⌝ }
+{
+    if count != ROW_LENGTH * rows {
+        Some(Refusal::CutShort { row: rows, count })
+    } else if rows == 0 {
+        Some(Refusal::NoRows)
+    } else if rows > MAX_ROWS {
+        Some(Refusal::TooManyRows {
+            count: rows,
+            limit: MAX_ROWS,
+        })
+    } else {
+        None
+    }
+}
+
+// Refusal number 1, if it applies: numbers that aren't a program in rows, with the lowest row that is wrong.
+pub fn rows_refusal(numbers: &[u32]) -> Option<Refusal>
+    ensures { λ r. ⌜ r ≡ rows-refusal (now (numbers .entry)) ⌝ }
+{
+    let rows = numbers.len() / ROW_LENGTH;
+    match shape_refusal(numbers.len(), rows) {
+        Some(refusal) => Some(refusal),
+        None => scan_refusal(numbers, rows),
+    }
 }
 
 // A place that a row names by itself and that isn't there.
@@ -85,7 +129,11 @@ fn place_refusal(row: usize, place: Option<usize>, places: usize) -> Option<Refu
             if place < places {
                 None
             } else {
-                Some(Refusal::NoSuchPlace { row, place, count: places })
+                Some(Refusal::NoSuchPlace {
+                    row,
+                    place,
+                    count: places,
+                })
             }
         }
         None => None,
@@ -94,22 +142,25 @@ fn place_refusal(row: usize, place: Option<usize>, places: usize) -> Option<Refu
 
 // More places than a program may work on.
 fn count_refusal(places: usize) -> Option<Refusal>
-    ensures { λ r. ⌜ r ≡ cond (leb places 1024) None (Some (TooManyPlaces places 1024)) ⌝ }
+    ensures { λ r. ⌜ r ≡ count-refusal places ⌝ }
 {
     if places <= MAX_PLACES {
         None
     } else {
-        Some(Refusal::TooManyPlaces { count: places, limit: MAX_PLACES })
+        Some(Refusal::TooManyPlaces {
+            count: places,
+            limit: MAX_PLACES,
+        })
     }
 }
 
-// Refusal number 2, if it applies: a place that a reached row names and that isn't there, of the lowest such row, or else too many places.
-// One pass from the last row back marks what is reached and finds the lowest row at once.
-pub fn places_refusal(program: ValidProgram, places: usize) -> Option<Refusal>
-    ensures { λ r. ⌜ r ≡ places-refusal (now (program .entry .numbers)) places ⌝ }
+// A place that a reached row names and that isn't there, of the lowest such row. One pass from the last row back marks what is reached and
+// finds the lowest row at once.
+fn reach_refusal(program: ValidProgram, places: usize) -> Option<Refusal>
+    ensures { λ r. ⌜ r ≡ first-said (row-place-refusal (now (program .entry .numbers)) places) (rows (now (program .entry .numbers))) ⌝ }
 {
     let rows = program.row_count();
-    let mut reached = [false; MAX_ROWS];
+    let mut reached = unmarked();
     reached[rows - 1] = true;
     let mut found = None;
     for i in (0..rows).rev() {
@@ -119,13 +170,19 @@ pub fn places_refusal(program: ValidProgram, places: usize) -> Option<Refusal>
             mark(&mut reached, row.named());
         }
     }
-    found.or(count_refusal(places))
+    found
+}
+
+// Refusal number 2, if it applies: a place that a reached row names and that isn't there, or else too many places.
+pub fn places_refusal(program: ValidProgram, places: usize) -> Option<Refusal>
+    ensures { λ r. ⌜ r ≡ places-refusal (now (program .entry .numbers)) places ⌝ }
+{
+    reach_refusal(program, places).or(count_refusal(places))
 }
 
 // The first refusal that applies to numbers that should be a program and to a count of places: number 1, then number 2.
 pub fn validate(numbers: &[u32], places: usize) -> Option<Refusal>
-    ensures which { λ r. ⌜ r ≡ program-refusal (now (numbers .entry)) places ⌝ }
-    ensures number { λ r. ⌜ answered r ≡ refusal-number (now (numbers .entry)) places ⌝ }
+    ensures { λ r. ⌜ r ≡ program-refusal (now (numbers .entry)) places ⌝ }
 {
     match rows_refusal(numbers) {
         Some(refusal) => Some(refusal),

@@ -29,18 +29,42 @@ struct Reason(Refusal);
 impl fmt::Display for Reason as ReasonDisplay {
     fn fmt<W: fmt::Write>(&self, f: &mut fmt::Formatter<W>) -> fmt::Result {
         match self.0 {
-            Refusal::CutShort { row, count } => write!(f, "row {row} is cut short, {count} numbers are not rows of four"),
+            Refusal::CutShort { row, count } => write!(
+                f,
+                "row {row} is cut short, {count} numbers are not rows of four"
+            ),
             Refusal::NoRows => write!(f, "there is no row"),
-            Refusal::TooManyRows { count, limit } => write!(f, "{count} rows, and a program has {limit} at most"),
-            Refusal::UnknownKind { row, kind, limit } => write!(f, "row {row} is of kind {kind}, and the kinds end at {limit}"),
-            Refusal::NotEarlier { row, named } => write!(f, "row {row} names row {named}, which is not earlier"),
-            Refusal::NoSuchPlace { row, place, count } => write!(f, "row {row} names place {place}, and the count of places is {count}"),
-            Refusal::TooManyPlaces { count, limit } => write!(f, "{count} places, and a program works on {limit} at most"),
+            Refusal::TooManyRows { count, limit } => write!(
+                f,
+                "{count} rows, and a program has {limit} at most"
+            ),
+            Refusal::UnknownKind { row, kind, limit } => write!(
+                f,
+                "row {row} is of kind {kind}, and the kinds end at {limit}"
+            ),
+            Refusal::NotEarlier { row, named } => write!(
+                f,
+                "row {row} names row {named}, which is not earlier"
+            ),
+            Refusal::NoSuchPlace { row, place, count } => write!(
+                f,
+                "row {row} names place {place}, and the count of places is {count}"
+            ),
+            Refusal::TooManyPlaces { count, limit } => write!(
+                f,
+                "{count} places, and a program works on {limit} at most"
+            ),
             Refusal::TooDear { limit } => write!(f, "the price is above {limit}"),
-            Refusal::RoomLength { length, places } => write!(f, "the room is {length} long, and the count of places is {places}"),
+            Refusal::RoomLength { length, places } => write!(
+                f,
+                "the room is {length} long, and the count of places is {places}"
+            ),
             Refusal::Unreadable { line } => {
                 let counted = line as u128 + 1;
-                write!(f, "line {counted} has a word that is not places, rows or a number of theirs below 4294967296")
+                write!(
+                    f,
+                    "line {counted} has a word that is not places, rows or a number of theirs below 4294967296"
+                )
             }
         }
     }

@@ -1,7 +1,8 @@
-use mathlib.Core.Bool.{true, false}
-use mathlib.Core.Path.{_≡_, sym, ap, subst, _∙_}
+use mathlib.Core.Bool.{Bool, true}
+use mathlib.Core.List.{List}
+use mathlib.Core.Path.{_≡_, sym, ap, subst, subst₂, _∙_}
 use Prim.Native.Nat.{ℕ, _-_, _<_}
-use lib.ListN.{set, replicate}
+use lib.ListN.{set}
 use native.Mathlib.Omega.{arith}
 use Rattle.std.proofs.shelf.Elements.{all-weaker}
 use Rattle.std.specs.declared.option.Option.the-variants.{None}
@@ -11,7 +12,7 @@ use Rattle.program.specs.Row.{named}
 use Rattle.program.proofs.Placing.{Passed, none-passed, pass-unreached, pass-reached, all-passed}
 use Rattle.program.proofs.Shape.{Shape, shape-of}
 use Rattle.program.proofs.Taken.{valid-of}
-use Rattle.program.proofs.validation.places_refusal.Needs as need
+use Rattle.program.proofs.validation.reach_refusal.Needs as need
 
 pub sub-reached : need.sub-reached
 sub-reached c = let s : Shape (c .args .program .numbers .now) = shape-of _ (c .args .program .shape) in omega arith
@@ -21,7 +22,7 @@ index-reached-rows c = let s : Shape (c .args .program .numbers .now) = shape-of
 
 pub loop-i-holds : need.loop-i-holds
 loop-i-holds c =
-    subst (λ (k : ℕ). Passed (c .args .program .numbers .now) (c .args .places) k (set (replicate 256 false) (k - 1) true) None) (sym (c .row-count-rows .ensures))
+    subst₂ (λ (k : ℕ) (t : List Bool). Passed (c .args .program .numbers .now) (c .args .places) k (set t (k - 1) true) None) (sym (c .row-count-rows .ensures)) (sym (c .unmarked-reached .ensures))
     (none-passed (c .args .program .numbers .now) (c .args .places) (valid-of (c .args .program)))
 
 pub index-reached-i : need.index-reached-i
@@ -36,7 +37,7 @@ pub loop-i-again-then-reached-i : need.loop-i-again-then-reached-i
 loop-i-again-then-reached-i c =
     let said = c .place-refusal .ensures ∙ ap (Rattle.program.specs.Validation.absent _ _) (c .place .ensures) in
     let rows = pass-reached (c .args .program .numbers .now) (c .args .places) (valid-of (c .args .program)) (c .loop-i .i) (c .loop-i .reached) (c .loop-i .found) (omega arith) (omega arith) (c .loop-i .inv)
-          (c .row-at-row .result) (c .place-refusal .result) (c .if-reached-i .taken) (c .row-at-row .ensures .row) (c .row-at-row .ensures .earlier) said in
+    (c .row-at-row .result) (c .place-refusal .result) (c .if-reached-i .taken) (c .row-at-row .ensures .row) (c .row-at-row .ensures .earlier) said in
     subst (λ t. Passed (c .args .program .numbers .now) (c .args .places) (c .loop-i .i - 1) t (c .or-found .result)) (sym (c .mark .ensures ∙ ap (marked (c .loop-i .reached)) (c .named .ensures)))
     (subst (Passed (c .args .program .numbers .now) (c .args .places) (c .loop-i .i - 1) (marked (c .loop-i .reached) (named (c .row-at-row .result)))) (sym (c .or-found .ensures)) rows)
 
@@ -48,6 +49,5 @@ loop-i-again c =
 pub returns : need.returns
 returns c =
     let z : c .loop-i .i ≡ 0 = omega arith in
-    c .or .ensures
-    ∙ all-passed (c .args .program .numbers .now) (c .args .places) (valid-of (c .args .program)) (c .loop-i .reached) (c .loop-i .found) (c .count-refusal .result)
-      (subst (λ (k : ℕ). Passed (c .args .program .numbers .now) (c .args .places) k (c .loop-i .reached) (c .loop-i .found)) z (c .loop-i .inv)) (c .count-refusal .ensures)
+    all-passed (c .args .program .numbers .now) (c .args .places) (valid-of (c .args .program)) (c .loop-i .reached) (c .loop-i .found)
+    (subst (λ (k : ℕ). Passed (c .args .program .numbers .now) (c .args .places) k (c .loop-i .reached) (c .loop-i .found)) z (c .loop-i .inv))

@@ -1,5 +1,5 @@
 use Rattle.program.proofs.Placing.{Passed}
-use Rattle.program.proofs.validation.places_refusal.Given as given
+use Rattle.program.proofs.validation.reach_refusal.Given as given
 
 -- the rows from i up are passed
 abbrev pub Inv-loop-i : given.InvT-loop-i
