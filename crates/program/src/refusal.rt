@@ -59,27 +59,16 @@ impl Refusal {
         ensures { λ r. ⌜ r ≡ number-of self ⌝ }
     {
         match self {
-            Refusal::CutShort { row: _, count: _ } => 1,
+            Refusal::CutShort { .. } => 1,
             Refusal::NoRows => 1,
-            Refusal::TooManyRows { count: _, limit: _ } => 1,
-            Refusal::UnknownKind {
-                row: _,
-                kind: _,
-                limit: _,
-            } => 1,
-            Refusal::NotEarlier { row: _, named: _ } => 1,
-            Refusal::NoSuchPlace {
-                row: _,
-                place: _,
-                count: _,
-            } => 2,
-            Refusal::TooManyPlaces { count: _, limit: _ } => 2,
-            Refusal::TooDear { limit: _ } => 3,
-            Refusal::RoomLength {
-                length: _,
-                places: _,
-            } => 4,
-            Refusal::Unreadable { line: _ } => 5,
+            Refusal::TooManyRows { .. } => 1,
+            Refusal::UnknownKind { .. } => 1,
+            Refusal::NotEarlier { .. } => 1,
+            Refusal::NoSuchPlace { .. } => 2,
+            Refusal::TooManyPlaces { .. } => 2,
+            Refusal::TooDear { .. } => 3,
+            Refusal::RoomLength { .. } => 4,
+            Refusal::Unreadable { .. } => 5,
         }
     }
 
@@ -88,23 +77,15 @@ impl Refusal {
         ensures { λ r. ⌜ r ≡ place-of self ⌝ }
     {
         match self {
-            Refusal::CutShort { row, count: _ } => row as u64,
+            Refusal::CutShort { row, .. } => row as u64,
             Refusal::NoRows => 0,
-            Refusal::TooManyRows { count: _, limit } => limit as u64,
-            Refusal::UnknownKind {
-                row,
-                kind: _,
-                limit: _,
-            } => row as u64,
-            Refusal::NotEarlier { row, named: _ } => row as u64,
-            Refusal::NoSuchPlace {
-                row: _,
-                place,
-                count: _,
-            } => place as u64,
-            Refusal::TooManyPlaces { count: _, limit } => limit as u64,
-            Refusal::TooDear { limit: _ } => 0,
-            Refusal::RoomLength { length, places: _ } => length as u64,
+            Refusal::TooManyRows { limit, .. } => limit as u64,
+            Refusal::UnknownKind { row, .. } => row as u64,
+            Refusal::NotEarlier { row, .. } => row as u64,
+            Refusal::NoSuchPlace { place, .. } => place as u64,
+            Refusal::TooManyPlaces { limit, .. } => limit as u64,
+            Refusal::TooDear { .. } => 0,
+            Refusal::RoomLength { length, .. } => length as u64,
             Refusal::Unreadable { line } => line as u64,
         }
     }

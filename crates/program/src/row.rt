@@ -76,40 +76,29 @@ impl Row {
         let at = ROW_LENGTH * row;
         let kind = numbers[at];
         let a = numbers[at + 1];
-        let b = numbers[at + 2];
-        let c = numbers[at + 3];
+        let p = a as usize;
+        let q = numbers[at + 2] as usize;
+        let r = numbers[at + 3] as usize;
         match kind {
             0 => Row::Constant { value: a },
-            1 => Row::Place { place: a as usize },
-            2 => Row::Add {
-                left: a as usize,
-                right: b as usize,
-            },
-            3 => Row::Multiply {
-                left: a as usize,
-                right: b as usize,
-            },
-            4 => Row::Less {
-                left: a as usize,
-                right: b as usize,
-            },
-            5 => Row::Store {
-                place: a as usize,
-                value: b as usize,
-            },
+            1 => Row::Place { place: p },
+            2 => Row::Add { left: p, right: q },
+            3 => Row::Multiply { left: p, right: q },
+            4 => Row::Less { left: p, right: q },
+            5 => Row::Store { place: p, value: q },
             6 => Row::Sequence {
-                first: a as usize,
-                second: b as usize,
+                first: p,
+                second: q,
             },
             7 => Row::Choice {
-                condition: a as usize,
-                then: b as usize,
-                otherwise: c as usize,
+                condition: p,
+                then: q,
+                otherwise: r,
             },
             _ => Row::Loop {
                 limit: a,
-                count: b as usize,
-                body: c as usize,
+                count: q,
+                body: r,
             },
         }
     }
@@ -119,23 +108,19 @@ impl Row {
         ensures { λ r. ⌜ named-rows r ≡ named self ⌝ }
     {
         match self {
-            Row::Constant { value: _ } => Named::Nothing,
-            Row::Place { place: _ } => Named::Nothing,
+            Row::Constant { .. } => Named::Nothing,
+            Row::Place { .. } => Named::Nothing,
             Row::Add { left, right } => Named::Two(left, right),
             Row::Multiply { left, right } => Named::Two(left, right),
             Row::Less { left, right } => Named::Two(left, right),
-            Row::Store { place: _, value } => Named::One(value),
+            Row::Store { value, .. } => Named::One(value),
             Row::Sequence { first, second } => Named::Two(first, second),
             Row::Choice {
                 condition,
                 then,
                 otherwise,
             } => Named::Three(condition, then, otherwise),
-            Row::Loop {
-                limit: _,
-                count,
-                body,
-            } => Named::Two(count, body),
+            Row::Loop { count, body, .. } => Named::Two(count, body),
         }
     }
 
@@ -145,7 +130,7 @@ impl Row {
     {
         match self {
             Row::Place { place } => Some(place),
-            Row::Store { place, value: _ } => Some(place),
+            Row::Store { place, .. } => Some(place),
             _ => None,
         }
     }

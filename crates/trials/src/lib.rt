@@ -9,3 +9,5 @@ mod reading;
 mod refusals;
 #[cfg(test)]
 mod rows;
+#[cfg(test)]
+mod said;

@@ -1,93 +1,41 @@
 // The number and the place that each refusal is said by.
+use crate::said::cut_short;
+use crate::said::later;
+use crate::said::many_places;
+use crate::said::many_rows;
+use crate::said::missing;
+use crate::said::unknown;
 use program::Refusal;
 use std::test::*;
 
 // A refusal, and its number and place.
 #[derive(Drop)]
-struct Case {
-    refusal: Refusal,
-    number: u64,
-    place: u64,
-}
+struct Case(Option<Refusal>, u64, u64);
 
 #[test]
 fn numbers_and_places() -> Result<(), Fail> {
+    let limit = 4611686018427387904;
+    let line = 18446744073709551615;
+    let room = Refusal::RoomLength {
+        length: 4,
+        places: 3,
+    };
     let cases = [
-        Case {
-            refusal: Refusal::CutShort { row: 3, count: 14 },
-            number: 1,
-            place: 3,
-        },
-        Case {
-            refusal: Refusal::NoRows,
-            number: 1,
-            place: 0,
-        },
-        Case {
-            refusal: Refusal::TooManyRows {
-                count: 300,
-                limit: 256,
-            },
-            number: 1,
-            place: 256,
-        },
-        Case {
-            refusal: Refusal::UnknownKind {
-                row: 7,
-                kind: 9,
-                limit: 8,
-            },
-            number: 1,
-            place: 7,
-        },
-        Case {
-            refusal: Refusal::NotEarlier { row: 6, named: 8 },
-            number: 1,
-            place: 6,
-        },
-        Case {
-            refusal: Refusal::NoSuchPlace {
-                row: 5,
-                place: 12,
-                count: 10,
-            },
-            number: 2,
-            place: 12,
-        },
-        Case {
-            refusal: Refusal::TooManyPlaces {
-                count: 2000,
-                limit: 1024,
-            },
-            number: 2,
-            place: 1024,
-        },
-        Case {
-            refusal: Refusal::TooDear {
-                limit: 4611686018427387904,
-            },
-            number: 3,
-            place: 0,
-        },
-        Case {
-            refusal: Refusal::RoomLength {
-                length: 4,
-                places: 3,
-            },
-            number: 4,
-            place: 4,
-        },
-        Case {
-            refusal: Refusal::Unreadable {
-                line: 18446744073709551615,
-            },
-            number: 5,
-            place: 18446744073709551615,
-        },
+        Case(cut_short(3, 14), 1, 3),
+        Case(Some(Refusal::NoRows), 1, 0),
+        Case(many_rows(300), 1, 256),
+        Case(unknown(7, 9), 1, 7),
+        Case(later(6, 8), 1, 6),
+        Case(missing(5, 12, 10), 2, 12),
+        Case(many_places(2000), 2, 1024),
+        Case(Some(Refusal::TooDear { limit }), 3, 0),
+        Case(Some(room), 4, 4),
+        Case(Some(Refusal::Unreadable { line }), 5, 18446744073709551615),
     ];
     for case in cases.iter() {
-        check_eq(case.refusal.number(), case.number)?;
-        check_eq(case.refusal.place(), case.place)?;
+        let refusal = case.0.ok_or("no refusal")?;
+        check_eq(refusal.number(), case.1)?;
+        check_eq(refusal.place(), case.2)?;
     }
     Ok(())
 }
