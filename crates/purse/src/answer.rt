@@ -1,4 +1,7 @@
 // What is answered, and the words in which it is printed.
+ghost use mathlib.Core.Path.{_≡_};
+ghost use Rattle.std.specs.declared.option.Option.the-variants.{Some};
+ghost use Rattle.purse.specs.Answers.{answer-to, reason, shown-answer};
 use crate::reader::Text;
 use program::Refusal;
 use program::validate;
@@ -12,7 +15,9 @@ pub enum Answer {
 }
 
 // The answer to a text that was read, or that couldn't be.
-pub(crate) fn answer_of(text: Result<Text, Refusal>) -> Answer {
+pub(crate) fn answer_of(text: Result<Text, Refusal>) -> Answer
+    ensures { λ r. ⌜ r ≡ answer-to text ⌝ }
+{
     match text {
         Ok(text) => match validate(text.rows.as_slice(), text.places.len()) {
             Some(refusal) => Answer::TurnedAway(refusal),
@@ -27,6 +32,8 @@ pub(crate) fn answer_of(text: Result<Text, Refusal>) -> Answer {
 struct Reason(Refusal);
 
 impl fmt::Display for Reason as ReasonDisplay {
+    ghost shown = { λ x. Some (reason (x .0)) };
+
     fn fmt<W: fmt::Write>(&self, f: &mut fmt::Formatter<W>) -> fmt::Result {
         match self.0 {
             Refusal::CutShort { row, count } => write!(
@@ -71,6 +78,8 @@ impl fmt::Display for Reason as ReasonDisplay {
 }
 
 pub impl fmt::Display for Answer as AnswerDisplay {
+    ghost shown = { λ x. Some (shown-answer x) };
+
     fn fmt<W: fmt::Write>(&self, f: &mut fmt::Formatter<W>) -> fmt::Result {
         match self {
             Answer::Taken => write!(f, "taken"),
