@@ -10,7 +10,7 @@ use Rattle.std.proofs.shelf.Ways.{decides-below-and}
 use Rattle.std.specs.Orderings.{Decides}
 use Rattle.std.specs.shelf.Lists.{All}
 use Rattle.program.specs.Row.{decoded, named, kind, row-in}
-use Rattle.program.specs.Rows.{numbers-ok, row-ok, rows-ok, rows, Valid}
+use Rattle.program.specs.Rows.{numbers-ok, row-ok, rows-ok, row-count, Valid}
 use Rattle.program.proofs.ByKind.{Kind-case, is-0, is-1, is-2, is-3, is-4, is-5, is-6, is-7, is-8, above, kind-case}
 
 -- each of a list is earlier than row i

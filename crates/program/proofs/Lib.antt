@@ -1,9 +1,11 @@
-pub mod ByKind
-pub mod Shape
-pub mod Earlier
+mod ByKind
+mod Earlier
+mod Marking
+mod Numbering
+pub mod Options
+mod Placing
 pub mod Programs
 pub mod Reaching
-pub mod Refusing
-pub mod Placing
-pub mod Numbering
-pub mod Taken
+mod Refusing
+pub mod Shape
+pub mod Validated

@@ -7,18 +7,19 @@ use Prim.Native.Nat.{ℕ, zero, suc, _*_, _<_, _≤_}
 use lib.Dec.{leb, eqb}
 use lib.ListN.{length}
 use native.Mathlib.Omega.{arith}
-use Rattle.std.proofs.shelf.Tests.{cond-true, cond-false, eq-eqb, ne-eqb, le-leb, not-true, not-false, cases-bool}
+use Rattle.std.proofs.shelf.Tests.{false≢true, cond-true, cond-false, eq-eqb, ne-eqb, le-leb, not-true, not-false, cases-bool}
 use Rattle.std.specs.Options.{isSome, mapped, orOther}
 use Rattle.std.specs.declared.option.Option.{Option}
 use Rattle.std.specs.declared.option.Option.the-variants.{Some, None}
 use Rattle.program.specs.Row.{kind, named, row-in}
-use Rattle.program.specs.Rows.{rows, rows-ok, row-ok, shaped}
+use Rattle.program.specs.Rows.{row-count, rows-ok, row-ok, shaped}
 use Rattle.program.specs.Refusal.{number-of, place-of}
 use Rattle.program.specs.Validation.{answered, refusal-number, rows-taken, first-said, first-not-earlier, kind-refusal, row-refusal, shape-refusal, rows-refusal, places-refusal, places-taken, program-refusal}
 use Rattle.program.specs.declared.refusal.Refusal.{Refusal}
 use Rattle.program.specs.declared.refusal.Refusal.the-variants.{UnknownKind, NotEarlier}
 use Rattle.program.proofs.Placing.{places-number}
-use Rattle.program.proofs.Refusing.{none-some, said-some-at, row-refusal-some, scan-some, rows-refusal-some, taken-valid}
+use Rattle.program.proofs.Options.{none-some}
+use Rattle.program.proofs.Refusing.{said-some-at, row-refusal-some, scan-some, rows-refusal-some, taken-valid, valid-unrefused}
 use Rattle.program.proofs.Shape.{Shape, shape-of}
 
 -- what is said, if anything, is number 1
@@ -46,15 +47,11 @@ scan-1 xs (suc n) =
 
 rows-1 : (xs : List ℕ) → Number-1 (rows-refusal xs)
 rows-1 xs =
-    either-1 (shape-refusal (length xs) (rows xs)) (first-said (row-refusal xs) (rows xs))
-    (cond-1 (eqb (length xs) (4 * rows xs)) _ _ (cond-1 (eqb (rows xs) 0) _ _ refl (cond-1 (leb (rows xs) 256) _ _ refl refl)) refl) (scan-1 xs (rows xs))
-
-none-of : (o : Option Refusal) → isSome o ≡ false → o ≡ None
-none-of None e = refl
-none-of (Some r) e = absurd (Rattle.std.proofs.shelf.Tests.true≢false e)
+    either-1 (shape-refusal (length xs) (row-count xs)) (first-said (row-refusal xs) (row-count xs))
+    (cond-1 (eqb (length xs) (4 * row-count xs)) _ _ (cond-1 (eqb (row-count xs) 0) _ _ refl (cond-1 (leb (row-count xs) 256) _ _ refl refl)) refl) (scan-1 xs (row-count xs))
 
 first-answered : (o p : Option Refusal) → isSome o ≡ true → answered (orOther o p) ≡ answered o
-first-answered None p e = absurd (Rattle.std.proofs.shelf.Tests.false≢true e)
+first-answered None p e = absurd (false≢true e)
 first-answered (Some r) p e = refl
 
 -- the refusal that is answered has the number that the rules give
@@ -63,7 +60,7 @@ unfolding refusal-number
 answered-by-number xs n =
     ⊎-elim
     (λ (t : rows-taken xs ≡ true).
-    ap (λ o. answered (orOther o (places-refusal xs n))) (none-of (rows-refusal xs) (rows-refusal-some xs ∙ ap not t))
+    ap (λ o. answered (orOther o (places-refusal xs n))) (valid-unrefused xs (taken-valid xs t))
     ∙ places-number xs n (taken-valid xs t) ∙ sym (cond-true (rows-taken xs) _ _ t))
     (λ (t : rows-taken xs ≡ false).
     let some : isSome (rows-refusal xs) ≡ true = rows-refusal-some xs ∙ ap not t in
@@ -81,16 +78,16 @@ said-at-row xs i r e = by-kind-of (leb (kind xs i) 8) (first-not-earlier i (name
     by-kind-of false o h = let same : UnknownKind i (kind xs i) 8 ≡ r = cc in sym (ap place-of same)
 
 -- rows in shape are refused for one of them, or not at all
-in-shape : (xs : List ℕ) → shaped xs ≡ true → rows-refusal xs ≡ first-said (row-refusal xs) (rows xs)
+in-shape : (xs : List ℕ) → shaped xs ≡ true → rows-refusal xs ≡ first-said (row-refusal xs) (row-count xs)
 in-shape xs h =
     let s : Shape xs = shape-of xs h in
-    ap (λ o. orOther o (first-said (row-refusal xs) (rows xs)))
-    (cond-true (eqb (length xs) (4 * rows xs)) _ _ (eq-eqb _ _ (s .whole)) ∙ cond-false (eqb (rows xs) 0) _ _ (ne-eqb _ _ (λ e. omega arith)) ∙ cond-true (leb (rows xs) 256) _ _ (le-leb _ _ (s .few)))
+    ap (λ o. orOther o (first-said (row-refusal xs) (row-count xs)))
+    (cond-true (eqb (length xs) (4 * row-count xs)) _ _ (eq-eqb _ _ (s .whole)) ∙ cond-false (eqb (row-count xs) 0) _ _ (ne-eqb _ _ (λ e. omega arith)) ∙ cond-true (leb (row-count xs) 256) _ _ (le-leb _ _ (s .few)))
 
 -- the row that is said is the lowest that is wrong
-pub lowest-row : (xs : List ℕ) (r : Refusal) → shaped xs ≡ true → rows-refusal xs ≡ Some r → (place-of r < rows xs) × (rows-ok xs (place-of r) ≡ true) × (row-ok xs (place-of r) ≡ false)
+pub lowest-row : (xs : List ℕ) (r : Refusal) → shaped xs ≡ true → rows-refusal xs ≡ Some r → (place-of r < row-count xs) × (rows-ok xs (place-of r) ≡ true) × (row-ok xs (place-of r) ≡ false)
 lowest-row xs r h e =
-    let (i, l, here, before) = said-some-at (row-refusal xs) (rows xs) r (sym (in-shape xs h) ∙ e) in
+    let (i, l, here, before) = said-some-at (row-refusal xs) (row-count xs) r (sym (in-shape xs h) ∙ e) in
     let at : place-of r ≡ i = said-at-row xs i r here in (
       omega arith,
       ap (rows-ok xs) at ∙ not-false (rows-ok xs i) (sym (scan-some xs i) ∙ ap isSome before),

@@ -8,7 +8,7 @@ use Rattle.std.specs.shelf.Lists.{All}
 use Rattle.std.proofs.shelf.Elements.{all-weaker}
 use Rattle.semantics.specs.Program.{Program, added, times, less, set, after, if-not-nought, again}
 use Rattle.program.specs.Row.{decoded, named, kind, first, second, third, row-in}
-use Rattle.program.specs.Rows.{rows, rows-ok, shaped, program-at, program-in, program-of, at-row, Valid}
+use Rattle.program.specs.Rows.{row-count, rows-ok, shaped, program-at, program-in, program-of, at-row, Valid}
 use Rattle.program.specs.Reads.{Reads}
 use Rattle.program.specs.Laws.{Equations}
 use Rattle.program.specs.declared.row.Row.{Row}
@@ -57,9 +57,9 @@ at-row-is xs n i ok l =
     (all-weaker (λ j. j < i) (λ j. program-at xs i j ≡ at-row xs j) (λ j e. depth-does-not-matter xs n i j ok (omega arith) e) _ (names-earlier xs n i ok l))
 
 -- the last row is the program
-pub program-in-is : (xs : List ℕ) → Valid xs → program-in xs ≡ at-row xs (rows xs - 1)
+pub program-in-is : (xs : List ℕ) → Valid xs → program-in xs ≡ at-row xs (row-count xs - 1)
 unfolding program-in
-program-in-is xs v = let s : Shape xs = shape-of xs (v .shape) in depth-does-not-matter xs (rows xs) (rows xs) (rows xs - 1) (v .order) (omega arith) (omega arith)
+program-in-is xs v = let s : Shape xs = shape-of xs (v .shape) in depth-does-not-matter xs (row-count xs) (row-count xs) (row-count xs - 1) (v .order) (omega arith) (omega arith)
 
 -- a row of a known kind
 of-kind : (xs : List ℕ) (n i k : ℕ) → rows-ok xs n ≡ true → i < n → kind xs i ≡ k → at-row xs i ≡ program-of (at-row xs) (decoded k (first xs i) (second xs i) (third xs i))
@@ -81,10 +81,10 @@ equations xs n i ok l =
     }
 
 -- what is known of a row that is read
-pub read-row : (xs : List ℕ) (i : ℕ) (r : Row) → rows-ok xs (rows xs) ≡ true → i < rows xs → r ≡ row-in xs i → Reads xs i r
+pub read-row : (xs : List ℕ) (i : ℕ) (r : Row) → rows-ok xs (row-count xs) ≡ true → i < row-count xs → r ≡ row-in xs i → Reads xs i r
 read-row xs i r ok l e =
     record {
       row = e;
-      earlier = subst (λ (r : Row). All (λ j. j < i) (named r)) (sym e) (names-earlier xs (rows xs) i ok l);
-      program = at-row-is xs (rows xs) i ok l ∙ ap (program-of (at-row xs)) (sym e);
+      earlier = subst (λ (r : Row). All (λ j. j < i) (named r)) (sym e) (names-earlier xs (row-count xs) i ok l);
+      program = at-row-is xs (row-count xs) i ok l ∙ ap (program-of (at-row xs)) (sym e);
     }

@@ -12,10 +12,10 @@ use Rattle.std.specs.declared.option.Option.{Option}
 use Rattle.std.specs.declared.option.Option.the-variants.{Some, None}
 use Rattle.std.specs.shelf.Lists.{All}
 use Rattle.semantics.specs.Program.{Program, fits, names, parts, Within, whole, inside}
-use Rattle.semantics.proofs.Members.{all-member, member-map, map-member}
-use Rattle.semantics.proofs.Naming.{fits-below, fits-from-names, names-within}
+use Rattle.semantics.proofs.Members.{all-member, all-from-members, member-map, map-member}
+use Rattle.semantics.proofs.Naming.{fits-below, fits-from-names, fits-within, names-within}
 use Rattle.program.specs.Row.{named, row-in, own-place}
-use Rattle.program.specs.Rows.{rows, rows-ok, program-in, program-of, at-row, Valid}
+use Rattle.program.specs.Rows.{row-count, rows-ok, program-in, program-of, at-row, Valid}
 use Rattle.program.specs.Reach.{Reaches, itself, through, any, reaches-by, reached}
 use Rattle.program.specs.declared.row.Row.{Row}
 use Rattle.program.specs.declared.row.Row.the-variants.{Constant, Place, Add, Multiply, Less, Store, Sequence, Choice, Loop}
@@ -148,26 +148,35 @@ module _ (xs : List ℕ) (n : ℕ) (ok : rows-ok xs n ≡ true) where
       (k, through j mj r, e))
       (names-of p (at-row xs) (row-in xs i) (subst (λ (t : Program). names p t ≡ true) (at-row-is xs n i ok l) m))
 
+  -- a row's program fits: so do the programs at the rows that it names, and the place that it names by itself is there
+  pub fits-row : (m i : ℕ) → i < n → fits m (at-row xs i) ≡ true → All (λ j. fits m (at-row xs j) ≡ true) (named (row-in xs i)) × ((p : ℕ) → own-place (row-in xs i) ≡ Some p → p < m)
+  fits-row m i l f = (
+    all-from-members (λ j. fits m (at-row xs j) ≡ true) (named (row-in xs i)) (λ j mj.
+        let h : j < i = member-earlier i j l mj in
+        fits-within m (reached-within j l (through j mj (itself refl))) f),
+    λ p e. fits-below m p (at-row xs i) f (own-named p i i l (itself refl) e),
+  )
+
 -- of a whole program: the last row
 module _ (xs : List ℕ) (v : Valid xs) where
-  pub last-row : rows xs - 1 < rows xs
+  pub last-row : row-count xs - 1 < row-count xs
   last-row = let s : Shape xs = shape-of xs (v .shape) in omega arith
 
-  pub reached-decides : (k : ℕ) → Decides (reached xs k) (Reaches xs k (rows xs - 1))
+  pub reached-decides : (k : ℕ) → Decides (reached xs k) (Reaches xs k (row-count xs - 1))
   unfolding reached
   reached-decides k = (
-    reaches-by-sound xs (rows xs) (rows xs - 1) k,
-    λ r. reaches-by-complete xs (rows xs) (v .order) (rows xs) k last-row (omega (arith, last-row)) r,
+    reaches-by-sound xs (row-count xs) (row-count xs - 1) k,
+    λ r. reaches-by-complete xs (row-count xs) (v .order) (row-count xs) k last-row (omega (arith, last-row)) r,
   )
 
-  pub names-reached : (p : ℕ) → Decides (names p (program-in xs)) ((k : ℕ) × Reaches xs k (rows xs - 1) × (own-place (row-in xs k) ≡ Some p))
+  pub names-reached : (p : ℕ) → Decides (names p (program-in xs)) ((k : ℕ) × Reaches xs k (row-count xs - 1) × (own-place (row-in xs k) ≡ Some p))
   names-reached p = (
-    λ m. named-own xs (rows xs) (v .order) p (rows xs) (rows xs - 1) last-row last-row (subst (λ (t : Program). names p t ≡ true) (program-in-is xs v) m),
-    λ h. let (k, r, e) = h in subst (λ (t : Program). names p t ≡ true) (sym (program-in-is xs v)) (own-named xs (rows xs) (v .order) p k (rows xs - 1) last-row r e),
+    λ m. named-own xs (row-count xs) (v .order) p (row-count xs) (row-count xs - 1) last-row last-row (subst (λ (t : Program). names p t ≡ true) (program-in-is xs v) m),
+    λ h. let (k, r, e) = h in subst (λ (t : Program). names p t ≡ true) (sym (program-in-is xs v)) (own-named xs (row-count xs) (v .order) p k (row-count xs - 1) last-row r e),
   )
 
-  pub fits-reached : (n : ℕ) → fits n (program-in xs) ≡ true → (k p : ℕ) → Reaches xs k (rows xs - 1) → own-place (row-in xs k) ≡ Some p → p < n
+  pub fits-reached : (n : ℕ) → fits n (program-in xs) ≡ true → (k p : ℕ) → Reaches xs k (row-count xs - 1) → own-place (row-in xs k) ≡ Some p → p < n
   fits-reached n f k p r e = fits-below n p (program-in xs) f (names-reached p .1 (k, r, e))
 
-  pub reached-fits : (n : ℕ) → ((k p : ℕ) → Reaches xs k (rows xs - 1) → own-place (row-in xs k) ≡ Some p → p < n) → fits n (program-in xs) ≡ true
+  pub reached-fits : (n : ℕ) → ((k p : ℕ) → Reaches xs k (row-count xs - 1) → own-place (row-in xs k) ≡ Some p → p < n) → fits n (program-in xs) ≡ true
   reached-fits n h = fits-from-names n (program-in xs) (λ p m. let (k, r, e) = names-reached p .0 m in h k p r e)

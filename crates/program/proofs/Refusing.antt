@@ -8,17 +8,17 @@ use lib.Dec.{ltb, leb, eqb}
 use lib.ListN.{length}
 use native.Mathlib.Numerals.{add-one}
 use native.Mathlib.Omega.{arith}
-use Rattle.std.proofs.shelf.Tests.{true≢false, false≢true, ne-eqb, eqb-true, le-leb, leb-true, and-parts, not-false, not-from-false, cases-lt}
+use Rattle.std.proofs.shelf.Tests.{true≢false, false≢true, ne-eqb, le-leb, and-parts, and-from, not-false, not-from-false, cases-lt}
 use Rattle.std.specs.Options.{isSome, mapped, orOther}
 use Rattle.std.specs.declared.option.Option.{Option}
 use Rattle.std.specs.declared.option.Option.the-variants.{Some, None}
 use Rattle.program.specs.Row.{kind, named, row-in}
-use Rattle.program.specs.Rows.{rows, row-ok, rows-ok, Valid}
+use Rattle.program.specs.Rows.{row-count, row-ok, rows-ok, shaped, Valid}
 use Rattle.program.specs.Validation.{rows-taken, first-said, first-not-earlier, order-refusal, row-refusal, rows-refusal}
 use Rattle.program.specs.declared.refusal.Refusal.{Refusal}
 use Rattle.program.specs.declared.refusal.Refusal.the-variants.{NotEarlier}
 use Rattle.program.proofs.Earlier.{earlier, row-ok-is}
-use Rattle.program.proofs.Shape.{Shape, shaped-from}
+use Rattle.program.proofs.Options.{none-some, or-none, cases-option, none-if, some-of-either, some-mapped}
 
 at-end : (i n : ℕ) → i ≤ suc n → (i ≡ suc n) ⊎ (i ≤ n)
 at-end i n h = ⊎-elim (λ l. inr (omega arith)) (λ l. inl (omega arith)) (cases-lt i (suc n))
@@ -51,13 +51,6 @@ pub said-none : (f : ℕ → Option Refusal) → first-said f 0 ≡ None
 unfolding first-said
 said-none f = refl
 
-pub none-some : (r : Refusal) → None ≡ Some r → ⊥
-none-some r e = true≢false (sym (ap isSome e))
-
-pub or-none : (a b : Option Refusal) → orOther a b ≡ None → (a ≡ None) × (b ≡ None)
-or-none None b e = (refl, e)
-or-none (Some x) b e = absurd (none-some x (sym e))
-
 -- a scan that says nothing says nothing of each row
 pub said-none-at : (f : ℕ → Option Refusal) (n i : ℕ) → first-said f n ≡ None → i < n → f i ≡ None
 unfolding first-said
@@ -70,16 +63,13 @@ said-none-at f (suc n) i e l =
 pub said-some-at : (f : ℕ → Option Refusal) (n : ℕ) (r : Refusal) → first-said f n ≡ Some r → (i : ℕ) × (i < n) × (f i ≡ Some r) × (first-said f i ≡ None)
 unfolding first-said
 said-some-at f zero r e = absurd (none-some r e)
-said-some-at f (suc n) r e = go (first-said f n) refl (said-some-at f n r)
-  where
-    go : (o : Option Refusal) → first-said f n ≡ o → (first-said f n ≡ Some r → (i : ℕ) × (i < n) × (f i ≡ Some r) × (first-said f i ≡ None)) →
-        (i : ℕ) × (i < suc n) × (f i ≡ Some r) × (first-said f i ≡ None)
-    go None h before = (n, omega arith, sym (ap (λ o. orOther o (f n)) h) ∙ e, h)
-    go (Some q) h before = let (i, l, a, b) = before (h ∙ sym (ap (λ o. orOther o (f n)) h) ∙ e) in (i, omega arith, a, b)
-
-some-of-either : {A : Type 0} (o p : Option A) → isSome (orOther o p) ≡ (isSome o || isSome p)
-some-of-either None p = refl
-some-of-either (Some x) p = refl
+said-some-at f (suc n) r e =
+    let before = said-some-at f n r in
+    ⊎-elim (λ (h : first-said f n ≡ None). (n, omega arith, sym (ap (λ o. orOther o (f n)) h) ∙ e, h))
+    (λ (h : (q : Refusal) × (first-said f n ≡ Some q)).
+        let (i, l, a, b) = before (h .1 ∙ sym (ap (λ o. orOther o (f n)) (h .1)) ∙ e) in
+        (i, omega arith, a, b))
+    (cases-option (first-said f n))
 
 not-both : (a b : Bool) → (not b || not a) ≡ not (a && b)
 not-both true true = refl
@@ -94,10 +84,6 @@ later-by false e o j h = refl
 kind-by : (t e : Bool) (o : Option Refusal) (x : Refusal) → isSome o ≡ not e → isSome (orOther (cond t None (Some x)) o) ≡ not (t && e)
 kind-by true e o x h = h
 kind-by false e o x h = refl
-
-some-mapped : {A B : Type 0} (f : A → B) (o : Option A) → isSome (mapped f o) ≡ isSome o
-some-mapped f None = refl
-some-mapped f (Some x) = refl
 
 later-some : (i : ℕ) (js : List ℕ) → isSome (first-not-earlier i js) ≡ not (earlier i js)
 later-some i [] = refl
@@ -132,18 +118,28 @@ shape-some false none few ok o x y z h = refl
 pub rows-refusal-some : (xs : List ℕ) → isSome (rows-refusal xs) ≡ not (rows-taken xs)
 unfolding rows-taken
 rows-refusal-some xs =
-    shape-some (eqb (length xs) (4 * rows xs)) (eqb (rows xs) 0) (leb (rows xs) 256) (rows-ok xs (rows xs)) (first-said (row-refusal xs) (rows xs)) _ _ _ (scan-some xs (rows xs))
-    ∙ ap (λ t. not (eqb (length xs) (4 * rows xs) && (t && (leb (rows xs) 256 && rows-ok xs (rows xs))))) (sym (one-or-more (rows xs)))
+    shape-some (eqb (length xs) (4 * row-count xs)) (eqb (row-count xs) 0) (leb (row-count xs) 256) (rows-ok xs (row-count xs)) (first-said (row-refusal xs) (row-count xs)) _ _ _ (scan-some xs (row-count xs))
+    ∙ ap (λ t. not (eqb (length xs) (4 * row-count xs) && (t && (leb (row-count xs) 256 && rows-ok xs (row-count xs))))) (sym (one-or-more (row-count xs)))
 
--- rows that are taken are valid
+-- rows that are taken are valid, and valid rows are taken
 pub taken-valid : (xs : List ℕ) → rows-taken xs ≡ true → Valid xs
-unfolding rows-taken
+unfolding rows-taken shaped
 taken-valid xs h =
-    let p = and-parts (eqb (length xs) (4 * rows xs)) _ h in
-    let q = and-parts (leb 1 (rows xs)) _ (p .1) in
-    let r = and-parts (leb (rows xs) 256) _ (q .1) in
-    record { shape = shaped-from xs (record { whole = eqb-true _ _ (p .0); some = leb-true 1 _ (q .0); few = leb-true _ 256 (r .0) }); order = r .1 }
+    let p = and-parts (eqb (length xs) (4 * row-count xs)) _ h in
+    let q = and-parts (leb 1 (row-count xs)) _ (p .1) in
+    let r = and-parts (leb (row-count xs) 256) _ (q .1) in
+    record { shape = and-from _ _ (p .0) (and-from _ _ (q .0) (r .0)); order = r .1 }
 
--- and so are rows that get no refusal
+valid-taken : (xs : List ℕ) → Valid xs → rows-taken xs ≡ true
+unfolding rows-taken shaped
+valid-taken xs v =
+    let p = and-parts (eqb (length xs) (4 * row-count xs)) _ (v .shape) in
+    let q = and-parts (leb 1 (row-count xs)) _ (p .1) in
+    and-from _ _ (p .0) (and-from _ _ (q .0) (and-from _ _ (q .1) (v .order)))
+
+-- number 1 is answered of just the numbers that aren't valid
 pub unrefused-valid : (xs : List ℕ) → rows-refusal xs ≡ None → Valid xs
 unrefused-valid xs e = taken-valid xs (not-false (rows-taken xs) (sym (rows-refusal-some xs) ∙ ap isSome e))
+
+pub valid-unrefused : (xs : List ℕ) → Valid xs → rows-refusal xs ≡ None
+valid-unrefused xs v = none-if (rows-refusal xs) (rows-refusal-some xs ∙ ap not (valid-taken xs v))

@@ -5,10 +5,11 @@ use mathlib.Core.Path.{_≡_}
 use Prim.Native.Nat.{ℕ, _-_, _<_, _≤_}
 use lib.ListN.{length}
 use Rattle.std.specs.Orderings.{Decides}
-use Rattle.std.specs.declared.option.Option.the-variants.{Some}
+use Rattle.std.specs.shelf.Lists.{All}
+use Rattle.std.specs.declared.option.Option.the-variants.{Some, None}
 use Rattle.semantics.specs.Program.{Program, constant, place, added, times, less, set, after, if-not-nought, again, fits, names, Within}
-use Rattle.program.specs.Row.{kind, first, second, third, row-in, own-place}
-use Rattle.program.specs.Rows.{rows, by-fours, rows-ok, row-ok, shaped, program-at, program-in, at-row, Valid}
+use Rattle.program.specs.Row.{kind, first, second, third, row-in, named, own-place}
+use Rattle.program.specs.Rows.{row-count, by-fours, rows-ok, row-ok, shaped, program-at, program-in, at-row, Valid}
 use Rattle.program.specs.Reach.{Reaches, reached}
 use Rattle.program.specs.Refusal.{place-of}
 use Rattle.program.specs.Validation.{answered, refusal-number, rows-refusal, count-refusal, places-refusal, program-refusal}
@@ -17,11 +18,11 @@ use Rattle.program.specs.declared.refusal.Refusal.the-variants.{NoSuchPlace}
 
 -- numbers are as many rows as there are fours among them
 abbrev pub Rows-by-fours : Type 0
-Rows-by-fours = (xs : List ℕ) → rows xs ≡ by-fours (length xs)
+Rows-by-fours = (xs : List ℕ) → row-count xs ≡ by-fours (length xs)
 
 -- the depth to which a row is read doesn't matter, once it exceeds the row's number
 abbrev pub Depth-does-not-matter : Type 0
-Depth-does-not-matter = (xs : List ℕ) (depth i : ℕ) → Valid xs → i < rows xs → i < depth → program-at xs depth i ≡ at-row xs i
+Depth-does-not-matter = (xs : List ℕ) (depth i : ℕ) → Valid xs → i < row-count xs → i < depth → program-at xs depth i ≡ at-row xs i
 
 -- the program at a row by the programs at the rows that it names, for each kind
 pub record Equations (xs : List ℕ) (i : ℕ) : Type 0 where
@@ -36,27 +37,37 @@ pub record Equations (xs : List ℕ) (i : ℕ) : Type 0 where
   pub kind-8 : kind xs i ≡ 8 → at-row xs i ≡ again (first xs i) (at-row xs (second xs i)) (at-row xs (third xs i))
 
 abbrev pub Rows-stand-for-programs : Type 0
-Rows-stand-for-programs = (xs : List ℕ) → Valid xs → ((i : ℕ) → i < rows xs → Equations xs i) × (program-in xs ≡ at-row xs (rows xs - 1))
+Rows-stand-for-programs = (xs : List ℕ) → Valid xs → ((i : ℕ) → i < row-count xs → Equations xs i) × (program-in xs ≡ at-row xs (row-count xs - 1))
 
 -- what the rows stand for that a row reaches is exactly what stands in the row's program
 abbrev pub Reach-is-membership : Type 0
 Reach-is-membership =
-    (xs : List ℕ) (i : ℕ) (q : Program) → Valid xs → i < rows xs →
+    (xs : List ℕ) (i : ℕ) (q : Program) → Valid xs → i < row-count xs →
     (Within q (at-row xs i) → (k : ℕ) × Reaches xs k i × (at-row xs k ≡ q)) × ((k : ℕ) → Reaches xs k i → at-row xs k ≡ q → Within q (at-row xs i))
 
--- the test of the rows that the last row reaches is that
+-- `reached` tells what the last row reaches
 abbrev pub Reached-is-reach : Type 0
-Reached-is-reach = (xs : List ℕ) (k : ℕ) → Valid xs → Decides (reached xs k) (Reaches xs k (rows xs - 1))
+Reached-is-reach = (xs : List ℕ) (k : ℕ) → Valid xs → Decides (reached xs k) (Reaches xs k (row-count xs - 1))
 
 -- the program names a place exactly if a reached row names it by itself
 abbrev pub Names-what-is-reached : Type 0
 Names-what-is-reached =
-    (xs : List ℕ) (p : ℕ) → Valid xs → Decides (names p (program-in xs)) ((k : ℕ) × Reaches xs k (rows xs - 1) × (own-place (row-in xs k) ≡ Some p))
+    (xs : List ℕ) (p : ℕ) → Valid xs → Decides (names p (program-in xs)) ((k : ℕ) × Reaches xs k (row-count xs - 1) × (own-place (row-in xs k) ≡ Some p))
 
 -- the program fits so many places exactly if each place that a reached row names by itself is one of them
 abbrev pub Fits-what-is-reached : Type 0
 Fits-what-is-reached =
-    (xs : List ℕ) (n : ℕ) → Valid xs → Decides (fits n (program-in xs)) ((k p : ℕ) → Reaches xs k (rows xs - 1) → own-place (row-in xs k) ≡ Some p → p < n)
+    (xs : List ℕ) (n : ℕ) → Valid xs → Decides (fits n (program-in xs)) ((k p : ℕ) → Reaches xs k (row-count xs - 1) → own-place (row-in xs k) ≡ Some p → p < n)
+
+-- where a row's program fits so many places, so do the programs at the rows that it names, and the place that it names by itself is there
+abbrev pub Fits-row-by-row : Type 0
+Fits-row-by-row =
+    (xs : List ℕ) (n i : ℕ) → Valid xs → i < row-count xs → fits n (at-row xs i) ≡ true →
+    All (λ j. fits n (at-row xs j) ≡ true) (named (row-in xs i)) × ((p : ℕ) → own-place (row-in xs i) ≡ Some p → p < n)
+
+-- number 1 is answered of just the numbers that aren't valid
+abbrev pub Valid-if-unrefused : Type 0
+Valid-if-unrefused = (xs : List ℕ) → (rows-refusal xs ≡ None → Valid xs) × (Valid xs → rows-refusal xs ≡ None)
 
 -- the refusal that is answered has the number that the rules give
 abbrev pub Answered-by-number : Type 0
@@ -66,14 +77,14 @@ Answered-by-number = (xs : List ℕ) (n : ℕ) → answered (program-refusal xs 
 abbrev pub Lowest-row : Type 0
 Lowest-row =
     (xs : List ℕ) (r : Refusal) → shaped xs ≡ true → rows-refusal xs ≡ Some r →
-    (place-of r < rows xs) × (rows-ok xs (place-of r) ≡ true) × (row-ok xs (place-of r) ≡ false)
+    (place-of r < row-count xs) × (rows-ok xs (place-of r) ≡ true) × (row-ok xs (place-of r) ≡ false)
 
 -- row k is the lowest that the last row reaches and that names a place p which isn't among n
 pub record Lowest-absent (xs : List ℕ) (n k p : ℕ) : Type 0 where
-  pub reaches : Reaches xs k (rows xs - 1)
+  pub reaches : Reaches xs k (row-count xs - 1)
   pub own : own-place (row-in xs k) ≡ Some p
   pub missing : n ≤ p
-  pub lowest : (j q : ℕ) → j < k → Reaches xs j (rows xs - 1) → own-place (row-in xs j) ≡ Some q → q < n
+  pub lowest : (j q : ℕ) → j < k → Reaches xs j (row-count xs - 1) → own-place (row-in xs j) ≡ Some q → q < n
 
 -- a program that doesn't fit is refused for the place of that row; one that fits, only for too many places
 abbrev pub Lowest-place : Type 0

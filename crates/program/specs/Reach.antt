@@ -6,7 +6,7 @@ use Prim.Native.Nat.{ℕ, zero, suc, _-_}
 use lib.Dec.{eqb}
 use lib.ListN.{set}
 use Rattle.program.specs.Row.{row-in, named}
-use Rattle.program.specs.Rows.{rows}
+use Rattle.program.specs.Rows.{row-count}
 
 -- row i reaches row k
 pub data Reaches (xs : List ℕ) (k : ℕ) : ℕ → Type 0 where
@@ -25,7 +25,7 @@ reaches-by xs (suc s) i k = eqb k i || any (λ j. reaches-by xs s j k) (named (r
 
 -- the last row reaches row k; no chain of earlier rows has more steps than there are rows
 unfoldable pub reached : List ℕ → ℕ → Bool
-reached xs k = reaches-by xs (rows xs) (rows xs - 1) k
+reached xs k = reaches-by xs (row-count xs) (row-count xs - 1) k
 
 -- a table of rows with some of them marked
 abbrev pub marked : List Bool → List ℕ → List Bool

@@ -12,11 +12,11 @@ number-of (UnknownKind row kind limit) = 1
 number-of (NotEarlier row named) = 1
 number-of (NoSuchPlace row place count) = 2
 number-of (TooManyPlaces count limit) = 2
-number-of (TooDear limit) = 3
+number-of (TooDear row limit) = 3
 number-of (RoomLength length places) = 4
 number-of (Unreadable line) = 5
 
--- of 1 the row, of 2 the place, of 3 nothing, of 4 the room's length, of 5 the line; where there are too many, the first one too many
+-- of 1 the row, of 2 the place, of 3 always 0, of 4 the room's length, of 5 the line; where there are too many, the first one too many
 abbrev pub place-of : Refusal → ℕ
 place-of (CutShort row count) = row
 place-of NoRows = 0
@@ -25,6 +25,6 @@ place-of (UnknownKind row kind limit) = row
 place-of (NotEarlier row named) = row
 place-of (NoSuchPlace row place count) = place
 place-of (TooManyPlaces count limit) = limit
-place-of (TooDear limit) = 0
+place-of (TooDear row limit) = 0
 place-of (RoomLength length places) = length
 place-of (Unreadable line) = line

@@ -11,8 +11,8 @@ use Rattle.program.specs.declared.row.Row.{Row}
 use Rattle.program.specs.declared.row.Row.the-variants.{Constant, Place, Add, Multiply, Less, Store, Sequence, Choice, Loop}
 
 -- how many rows so many numbers are
-abbrev pub rows : List ℕ → ℕ
-rows xs = length xs / 4
+abbrev pub row-count : List ℕ → ℕ
+row-count xs = length xs / 4
 
 -- the same, counted by fours
 unfoldable pub by-fours : ℕ → ℕ
@@ -36,7 +36,7 @@ program-at xs (suc f) i = row-of (program-at xs f) (kind xs i) (first xs i) (sec
 
 -- the last row is the program
 unfoldable pub program-in : List ℕ → Program
-program-in xs = program-at xs (rows xs) (rows xs - 1)
+program-in xs = program-at xs (row-count xs) (row-count xs - 1)
 
 -- k is a kind there is, and the rows that it has among its numbers are earlier than row i
 unfoldable pub numbers-ok : (i k a b c : ℕ) → Bool
@@ -58,12 +58,12 @@ rows-ok xs (suc i) = row-ok xs i && rows-ok xs i
 
 -- 1 to 256 rows of four numbers
 unfoldable pub shaped : List ℕ → Bool
-shaped xs = eqb (length xs) (4 * rows xs) && (leb 1 (rows xs) && leb (rows xs) 256)
+shaped xs = eqb (length xs) (4 * row-count xs) && (leb 1 (row-count xs) && leb (row-count xs) 256)
 
 -- validation takes the rows
 pub record Valid (xs : List ℕ) : Type 0 where
   pub shape : shaped xs ≡ true
-  pub order : rows-ok xs (rows xs) ≡ true
+  pub order : rows-ok xs (row-count xs) ≡ true
 
 -- the program that row i stands for, however deep it is
 unfoldable pub at-row : List ℕ → ℕ → Program

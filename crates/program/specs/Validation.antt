@@ -1,4 +1,4 @@
--- Which refusal a program in rows and a count of places get: the first that applies, by number and then by place. Assumes nothing.
+-- Which refusal a program in rows and a count of places get: the first that applies, by number and then by row. Assumes nothing.
 use mathlib.Core.Bool.{Bool, true, _&&_, cond}
 use mathlib.Core.List.{List, [], _∷_}
 use Prim.Native.Nat.{ℕ, zero, suc, _*_}
@@ -9,7 +9,7 @@ use Rattle.std.specs.declared.option.Option.{Option}
 use Rattle.std.specs.declared.option.Option.the-variants.{Some, None}
 use Rattle.semantics.specs.Program.{fits}
 use Rattle.program.specs.Row.{kind, row-in, named, own-place}
-use Rattle.program.specs.Rows.{rows, rows-ok, program-in}
+use Rattle.program.specs.Rows.{row-count, rows-ok, program-in}
 use Rattle.program.specs.Reach.{reached}
 use Rattle.program.specs.Refusal.{number-of}
 use Rattle.program.specs.declared.refusal.Refusal.{Refusal}
@@ -17,7 +17,7 @@ use Rattle.program.specs.declared.refusal.Refusal.the-variants.{CutShort, NoRo
 
 -- the numbers are 1 to 256 rows of four, of kinds there are, that name earlier rows only
 unfoldable pub rows-taken : List ℕ → Bool
-rows-taken xs = eqb (length xs) (4 * rows xs) && (leb 1 (rows xs) && (leb (rows xs) 256 && rows-ok xs (rows xs)))
+rows-taken xs = eqb (length xs) (4 * row-count xs) && (leb 1 (row-count xs) && (leb (row-count xs) 256 && rows-ok xs (row-count xs)))
 
 -- there are 1,024 places at most, and each that the program names is one of them
 unfoldable pub places-taken : List ℕ → (places : ℕ) → Bool
@@ -60,7 +60,7 @@ shape-refusal n r = cond (eqb n (4 * r)) (cond (eqb r 0) (Some NoRows) (cond (le
 
 -- number 1: the shape, or else the lowest row that is wrong
 abbrev pub rows-refusal : List ℕ → Option Refusal
-rows-refusal xs = orOther (shape-refusal (length xs) (rows xs)) (first-said (row-refusal xs) (rows xs))
+rows-refusal xs = orOther (shape-refusal (length xs) (row-count xs)) (first-said (row-refusal xs) (row-count xs))
 
 -- row i names a place that isn't among n
 abbrev pub absent : (n i : ℕ) → Option ℕ → Option Refusal
@@ -77,7 +77,7 @@ count-refusal n = cond (leb n 1024) None (Some (TooManyPlaces n 1024))
 
 -- number 2: the place that the lowest such row names, or else the count
 abbrev pub places-refusal : List ℕ → (places : ℕ) → Option Refusal
-places-refusal xs n = orOther (first-said (row-place-refusal xs n) (rows xs)) (count-refusal n)
+places-refusal xs n = orOther (first-said (row-place-refusal xs n) (row-count xs)) (count-refusal n)
 
 -- the first refusal of a program in rows and so many places
 abbrev pub program-refusal : List ℕ → (places : ℕ) → Option Refusal

@@ -1,17 +1,17 @@
-// The rows of a valid program, read one at a time, and how valid programs are made.
+// How validated programs are made, and how their rows are read.
 ghost use mathlib.Core.Path.{_≡_};
 ghost use Prim.Native.Nat.{_<_};
 ghost use Rattle.std.specs.declared.option.Option.the-variants.{None};
-ghost use Rattle.program.specs.Rows.{rows};
-ghost use Rattle.program.specs.Reads.{Reads};
-ghost use Rattle.program.specs.Validation.{rows-refusal, places-refusal};
+ghost use Rattle.program.specs.Rows.{row-count};
+ghost use Rattle.program.specs.Reads.{Reads, Last};
+ghost use Rattle.program.specs.Validation.{rows-refusal, program-refusal};
 use crate::fitting::FittingProgram;
 use crate::limits::ROW_LENGTH;
 use crate::row::Row;
 use crate::valid::ValidProgram;
 
 impl<'a> ValidProgram<'a> {
-    // A program of numbers that `rows_refusal` takes.
+    // The program of numbers that `rows_refusal` takes.
     pub fn new(numbers: &'a [u32]) -> ValidProgram<'a>
         requires { ⌜ rows-refusal (now numbers) ≡ None ⌝ }
         ensures { λ r. ⌜ now (r .numbers) ≡ now (numbers .entry) ⌝ }
@@ -19,16 +19,23 @@ impl<'a> ValidProgram<'a> {
         ValidProgram { numbers }
     }
 
-    // How many rows it has, 1 to 256.
+    // How many rows it has.
     pub fn row_count(self) -> usize
-        ensures { λ r. ⌜ r ≡ rows (now (self .entry .numbers)) ⌝ }
+        ensures { λ r. ⌜ r ≡ row-count (now (self .entry .numbers)) ⌝ }
     {
         self.numbers.len() / ROW_LENGTH
     }
 
+    // The number of its last row, which is the program; there are 1 to 256 rows.
+    pub fn last_row(self) -> usize
+        ensures { λ r. ⌜ Last (now (self .entry .numbers)) r ⌝ }
+    {
+        self.row_count() - 1
+    }
+
     // The row of that number. What it names is earlier.
     pub fn row_at(self, row: usize) -> Row
-        requires { ⌜ row < rows (now (self .numbers)) ⌝ }
+        requires { ⌜ row < row-count (now (self .numbers)) ⌝ }
         ensures { λ r. ⌜ Reads (now (self .entry .numbers)) row r ⌝ }
     {
         Row::decode(self.numbers, row)
@@ -36,12 +43,13 @@ impl<'a> ValidProgram<'a> {
 }
 
 impl<'a> FittingProgram<'a> {
-    // A program and a count of places that `places_refusal` takes.
-    pub fn new(program: ValidProgram<'a>, places: usize) -> FittingProgram<'a>
-        requires { ⌜ places-refusal (now (program .numbers)) places ≡ None ⌝ }
-        ensures same { λ r. ⌜ now (r .program .numbers) ≡ now (program .entry .numbers) ⌝ }
+    // The program of numbers and a count of places that `validate` takes.
+    pub fn new(numbers: &'a [u32], places: usize) -> FittingProgram<'a>
+        requires { ⌜ program-refusal (now numbers) places ≡ None ⌝ }
+        ensures same { λ r. ⌜ now (r .program .numbers) ≡ now (numbers .entry) ⌝ }
         ensures places { λ r. ⌜ r .places ≡ places ⌝ }
     {
+        let program = ValidProgram::new(numbers);
         FittingProgram { program, places }
     }
 }

@@ -1,5 +1,5 @@
-// The laws of programs in rows: each function carries one, so that the check demands its proof.
-ghost use Rattle.program.specs.Laws.{Rows-by-fours, Depth-does-not-matter, Rows-stand-for-programs, Reach-is-membership, Reached-is-reach, Names-what-is-reached, Fits-what-is-reached, Answered-by-number, Lowest-row, Lowest-place};
+// The laws of programs in rows: each function carries one, so that its proof is owed.
+ghost use Rattle.program.specs.Laws.{Rows-by-fours, Depth-does-not-matter, Rows-stand-for-programs, Reach-is-membership, Reached-is-reach, Names-what-is-reached, Fits-what-is-reached, Fits-row-by-row, Valid-if-unrefused, Answered-by-number, Lowest-row, Lowest-place};
 
 // Numbers are as many rows as there are fours among them.
 pub fn rows_by_fours() -> u8
@@ -29,7 +29,7 @@ pub fn reach_is_membership() -> u8
     0
 }
 
-// The test by which the refusals speak of reached rows tells what the last row reaches.
+// `reached`, by which the refusals and the table speak, tells what the last row reaches.
 pub fn reached_is_reach() -> u8
     ensures { λ _. ⌜ Reached-is-reach ⌝ }
 {
@@ -46,6 +46,20 @@ pub fn names_what_is_reached() -> u8
 // A program fits so many places exactly if each place that a reached row names by itself is one of them.
 pub fn fits_what_is_reached() -> u8
     ensures { λ _. ⌜ Fits-what-is-reached ⌝ }
+{
+    0
+}
+
+// Where a row's program fits, so do the programs at the rows that it names, and the place that it names by itself is there.
+pub fn fits_row_by_row() -> u8
+    ensures { λ _. ⌜ Fits-row-by-row ⌝ }
+{
+    0
+}
+
+// Refusal number 1 is answered of just the numbers that aren't valid.
+pub fn valid_if_unrefused() -> u8
+    ensures { λ _. ⌜ Valid-if-unrefused ⌝ }
 {
     0
 }

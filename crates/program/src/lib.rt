@@ -10,12 +10,10 @@ mod valid;
 mod validation;
 
 pub use fitting::FittingProgram;
+pub use reach::Table;
+pub use reach::reached_rows;
 pub use refusal::Refusal;
-pub use refusal::RefusalDebug;
-pub use refusal::RefusalPartialEq;
 pub use row::Row;
-pub use row::RowDebug;
-pub use row::RowPartialEq;
 pub use valid::ValidProgram;
 pub use validation::places_refusal;
 pub use validation::rows_refusal;

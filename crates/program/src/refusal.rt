@@ -2,7 +2,7 @@
 ghost use mathlib.Core.Path.{_≡_};
 ghost use Rattle.program.specs.Refusal.{number-of, place-of};
 
-#[derive(Clone, Copy, Debug, PartialEq)]
+#[derive(Clone, Copy)]
 pub enum Refusal {
     // Number 1: the `count` numbers aren't rows of four, since `row` is cut short.
     CutShort {
@@ -16,7 +16,7 @@ pub enum Refusal {
         count: usize,
         limit: usize,
     },
-    // Number 1: `row` is of a kind above the greatest there is.
+    // Number 1: `row` is of a kind above the last there is.
     UnknownKind {
         row: usize,
         kind: u32,
@@ -38,8 +38,9 @@ pub enum Refusal {
         count: usize,
         limit: usize,
     },
-    // Number 3: the price is above the limit.
+    // Number 3: the price is above the limit, and `row` is the lowest reached row whose price is.
     TooDear {
+        row: usize,
         limit: u64,
     },
     // Number 4: the room is of another length than the places.

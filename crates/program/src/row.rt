@@ -18,7 +18,7 @@ use crate::limits::ROW_LENGTH;
 // | 6 | first, second | first, then second, whose number it is |
 // | 7 | condition, then, otherwise | condition; then `then` if it isn't 0, else `otherwise` |
 // | 8 | limit, count, body | count; then body so often, but limit times at most, 1 more for each time: what body came to last, or 0 |
-#[derive(Clone, Copy, Debug, PartialEq)]
+#[derive(Clone, Copy)]
 pub enum Row {
     Constant {
         value: u32,
@@ -68,7 +68,7 @@ pub(crate) enum Named {
 }
 
 impl Row {
-    // The row that stands at a number. A kind above 8 is none; validation turns it away before this matters.
+    // The row of that number. A kind above 8 reads as a loop; validation refuses it first.
     pub(crate) fn decode(numbers: &[u32], row: usize) -> Row
         requires { ⌜ 4 * row + 4 ≤ length (now numbers) ⌝ }
         ensures { λ r. ⌜ r ≡ row-in (now (numbers .entry)) row ⌝ }
@@ -129,9 +129,15 @@ impl Row {
         ensures { λ r. ⌜ r ≡ own-place self ⌝ }
     {
         match self {
+            Row::Constant { .. } => None,
             Row::Place { place } => Some(place),
+            Row::Add { .. } => None,
+            Row::Multiply { .. } => None,
+            Row::Less { .. } => None,
             Row::Store { place, .. } => Some(place),
-            _ => None,
+            Row::Sequence { .. } => None,
+            Row::Choice { .. } => None,
+            Row::Loop { .. } => None,
         }
     }
 }

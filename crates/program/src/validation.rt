@@ -1,26 +1,25 @@
 // Validation: the first refusal that applies to numbers that should be a program, and to a count of places.
 ghost use mathlib.Core.Bool.{cond};
 ghost use mathlib.Core.Path.{_≡_};
-ghost use Prim.Native.Nat.{_+_, _*_, _≤_};
+ghost use Prim.Native.Nat.{_+_, _*_, _<_, _≤_};
 ghost use lib.Dec.{ltb};
 ghost use lib.ListN.{length};
-ghost use Rattle.std.specs.declared.option.Option.the-variants.{Some};
-ghost use Rattle.program.specs.Row.{named-rows};
-ghost use Rattle.program.specs.Rows.{rows};
+ghost use Rattle.std.specs.declared.option.Option.the-variants.{Some, None};
+ghost use Rattle.program.specs.Row.{named-rows, own-place, row-in};
+ghost use Rattle.program.specs.Rows.{row-count};
 ghost use Rattle.program.specs.Validation.{first-said, first-not-earlier, kind-refusal, order-refusal, row-refusal, shape-refusal, rows-refusal, absent, row-place-refusal, count-refusal, places-refusal, program-refusal};
 use crate::limits::MAX_KIND;
 use crate::limits::MAX_PLACES;
 use crate::limits::MAX_ROWS;
 use crate::limits::ROW_LENGTH;
-use crate::reach::mark;
-use crate::reach::unmarked;
+use crate::reach::reached_rows;
 use crate::refusal::Refusal;
 use crate::row::Named;
 use crate::row::Row;
 use crate::valid::ValidProgram;
 
 // `named` if it isn't earlier than `row`, else what is said of the rest.
-fn first_later(row: usize, named: usize, rest: Option<usize>) -> Option<usize>
+fn first_not_earlier(row: usize, named: usize, rest: Option<usize>) -> Option<usize>
     ensures { λ r. ⌜ r ≡ cond (ltb named row) rest (Some named) ⌝ }
 {
     if named < row { rest } else { Some(named) }
@@ -32,17 +31,17 @@ fn not_earlier(row: usize, rows: Named) -> Option<usize>
 {
     match rows {
         Named::Nothing => None,
-        Named::One(a) => first_later(row, a, None),
-        Named::Two(a, b) => first_later(row, a, first_later(row, b, None)),
-        Named::Three(a, b, c) => first_later(
+        Named::One(a) => first_not_earlier(row, a, None),
+        Named::Two(a, b) => first_not_earlier(row, a, first_not_earlier(row, b, None)),
+        Named::Three(a, b, c) => first_not_earlier(
             row,
             a,
-            first_later(row, b, first_later(row, c, None)),
+            first_not_earlier(row, b, first_not_earlier(row, c, None)),
         ),
     }
 }
 
-// A row of a kind that there isn't.
+// A kind above the greatest.
 fn kind_refusal(row: usize, kind: u32) -> Option<Refusal>
     ensures { λ r. ⌜ r ≡ kind-refusal row kind ⌝ }
 {
@@ -76,7 +75,7 @@ fn row_refusal(numbers: &[u32], row: usize) -> Option<Refusal>
     kind_refusal(row, kind).or(order_refusal(row, Row::decode(numbers, row).named()))
 }
 
-// What is wrong with the first of so many rows that is.
+// What is wrong with the lowest wrong row, of so many rows from row 0 up.
 fn scan_refusal(numbers: &[u32], rows: usize) -> Option<Refusal>
     requires { ⌜ 4 * rows ≤ length (now numbers) ⌝ }
     ensures { λ r. ⌜ r ≡ first-said (row-refusal (now (numbers .entry))) rows ⌝ }
@@ -99,13 +98,13 @@ fn shape_refusal(count: usize, rows: usize) -> Option<Refusal>
         Some(Refusal::CutShort { row: rows, count })
     } else if rows == 0 {
         Some(Refusal::NoRows)
-    } else if rows > MAX_ROWS {
+    } else if rows <= MAX_ROWS {
+        None
+    } else {
         Some(Refusal::TooManyRows {
             count: rows,
             limit: MAX_ROWS,
         })
-    } else {
-        None
     }
 }
 
@@ -154,23 +153,26 @@ fn count_refusal(places: usize) -> Option<Refusal>
     }
 }
 
-// A place that a reached row names and that isn't there, of the lowest such row. One pass from the last row back marks what is reached and
-// finds the lowest row at once.
-fn reach_refusal(program: ValidProgram, places: usize) -> Option<Refusal>
-    ensures { λ r. ⌜ r ≡ first-said (row-place-refusal (now (program .entry .numbers)) places) (rows (now (program .entry .numbers))) ⌝ }
+// A place that a row names and that isn't there, if the row is marked as reached.
+fn marked_refusal(program: ValidProgram, marked: bool, row: usize, places: usize) -> Option<Refusal>
+    requires { ⌜ row < row-count (now (program .numbers)) ⌝ }
+    ensures { λ r. ⌜ r ≡ cond marked (absent places row (own-place (row-in (now (program .entry .numbers)) row))) None ⌝ }
 {
-    let rows = program.row_count();
-    let mut reached = unmarked();
-    reached[rows - 1] = true;
-    let mut found = None;
-    for i in (0..rows).rev() {
-        if reached[i] {
-            let row = program.row_at(i);
-            found = place_refusal(i, row.place(), places).or(found);
-            mark(&mut reached, row.named());
+    if marked { place_refusal(row, program.row_at(row).place(), places) } else { None }
+}
+
+// A place that a reached row names and that isn't there, of the lowest such row.
+fn reach_refusal(program: ValidProgram, places: usize) -> Option<Refusal>
+    ensures { λ r. ⌜ r ≡ first-said (row-place-refusal (now (program .entry .numbers)) places) (row-count (now (program .entry .numbers))) ⌝ }
+{
+    let table = reached_rows(program);
+    for row in 0..program.row_count() {
+        let refusal = marked_refusal(program, table[row], row, places);
+        if refusal.is_some() {
+            return refusal;
         }
     }
-    found
+    None
 }
 
 // Refusal number 2, if it applies: a place that a reached row names and that isn't there, or else too many places.

@@ -1,4 +1,4 @@
-// The laws of programs: each function carries one, so that the check demands its proof. The definitions stand in specs/.
+// The laws of programs: each function carries one, so that its proof is owed. The definitions stand in specs/.
 ghost use Rattle.semantics.specs.Laws.{Fits-what-it-names, Fits-more, Fits-within, Names-within};
 
 // A program fits so many places exactly if each place that it names is one of them.
