@@ -69,9 +69,9 @@ module _ (xs : List ℕ) (v : Valid xs) where
       record {
         long = length-set (replicate 256 false) (row-count xs - 1) true;
         sound =
-          λ k h.
-              ⊎-elim itself (λ ne. absurd (both-ways (getD (replicate 256 false) k false) (nothing-marked k) (sym (getD-set-other (replicate 256 false) (row-count xs - 1) k true false ne) ∙ h)))
-              (cases-eq k (row-count xs - 1));
+            λ k h.
+            ⊎-elim itself (λ ne. absurd (both-ways (getD (replicate 256 false) k false) (nothing-marked k) (sym (getD-set-other (replicate 256 false) (row-count xs - 1) k true false ne) ∙ h)))
+            (cases-eq k (row-count xs - 1));
         top = getD-set-same (replicate 256 false) (row-count xs - 1) true false (omega arith);
         complete = λ j k a b h m. absurd (omega arith);
       }
@@ -91,8 +91,8 @@ module _ (xs : List ℕ) (v : Valid xs) where
           sound = p .sound;
           top = p .top;
           complete =
-            λ j k a b g m.
-                ⊎-elim (λ e. absurd (both-ways (getD t i false) h (subst (λ (x : ℕ). getD t x false ≡ true) e g))) (λ ne. p .complete j k (above i j a ne) b g m) (cases-eq j i);
+              λ j k a b g m.
+              ⊎-elim (λ e. absurd (both-ways (getD t i false) h (subst (λ (x : ℕ). getD t x false ≡ true) e g))) (λ ne. p .complete j k (above i j a ne) b g m) (cases-eq j i);
         }
 
     pub pass-marked : (r : Row) → i < row-count xs → getD t i false ≡ true → r ≡ row-in xs i → All (λ j. j < i) (named r) → Passed xs i (marked t (named r))
@@ -104,13 +104,13 @@ module _ (xs : List ℕ) (v : Valid xs) where
           sound = λ k g. ⊎-elim (p .sound k) (λ m. reaches-on xs i k (p .sound i h) (subst (λ (x : Row). List·Memᴰ k (named x)) e m)) (marked-only t (named r) k g);
           top = marked-keeps 256 t (named r) (row-count xs - 1) (p .long) within (p .top);
           complete =
-            λ j k a b g m.
-                ⊎-elim (λ same. marked-has 256 t (named r) (p .long) within (subst (λ (x : Row). List·Memᴰ k (named x)) (ap (row-in xs) same ∙ sym e) m))
-                (λ ne.
-                    ⊎-elim (λ was. marked-keeps 256 t (named r) k (p .long) within (p .complete j k (above i j a ne) b was m))
-                    (λ mj. let g : j < i = all-member (λ j. j < i) (named r) before mj in absurd (omega arith))
-                    (marked-only t (named r) j g))
-                (cases-eq j i);
+              λ j k a b g m.
+              ⊎-elim (λ same. marked-has 256 t (named r) (p .long) within (subst (λ (x : Row). List·Memᴰ k (named x)) (ap (row-in xs) same ∙ sym e) m))
+              (λ ne.
+              ⊎-elim (λ was. marked-keeps 256 t (named r) k (p .long) within (p .complete j k (above i j a ne) b was m))
+              (λ mj. let g : j < i = all-member (λ j. j < i) (named r) before mj in absurd (omega arith))
+              (marked-only t (named r) j g))
+              (cases-eq j i);
         }
 
   -- after the pass: a marked row marks all that it reaches
@@ -125,5 +125,5 @@ module _ (xs : List ℕ) (v : Valid xs) where
   all-passed t p k =
       ⊎-elim (λ (h : reached xs k ≡ true). mark-reached t k p (last-row xs v) (p .top) (reached-decides xs v k .0 h) ∙ sym h)
       (λ (h : reached xs k ≡ false).
-          ⊎-elim (λ m. absurd (both-ways (reached xs k) h (reached-decides xs v k .1 (p .sound k m)))) (λ m. m ∙ sym h) (cases-bool (getD t k false)))
+      ⊎-elim (λ m. absurd (both-ways (reached xs k) h (reached-decides xs v k .1 (p .sound k m)))) (λ m. m ∙ sym h) (cases-bool (getD t k false)))
       (cases-bool (reached xs k))

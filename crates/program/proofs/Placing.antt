@@ -75,8 +75,8 @@ module _ (xs : List ℕ) (n : ℕ) (v : Valid xs) where
   fits-unsaid f =
       ⊎-elim (λ e. e)
       (λ h.
-          let (k, p, is, low) = said-lowest (h .0) (h .1) in
-          absurd (omega (arith, fits-reached xs v n f k p (low .reaches) (low .own), low .missing)))
+      let (k, p, is, low) = said-lowest (h .0) (h .1) in
+      absurd (omega (arith, fits-reached xs v n f k p (low .reaches) (low .own), low .missing)))
       (cases-option (first-said (row-place-refusal xs n) (row-count xs)))
 
   pub places-unfit : fits n (program-in xs) ≡ false → (k : ℕ) × (p : ℕ) × (places-refusal xs n ≡ Some (NoSuchPlace k p n)) × Lowest-absent xs n k p

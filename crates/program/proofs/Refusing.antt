@@ -67,8 +67,8 @@ said-some-at f (suc n) r e =
     let before = said-some-at f n r in
     ⊎-elim (λ (h : first-said f n ≡ None). (n, omega arith, sym (ap (λ o. orOther o (f n)) h) ∙ e, h))
     (λ (h : (q : Refusal) × (first-said f n ≡ Some q)).
-        let (i, l, a, b) = before (h .1 ∙ sym (ap (λ o. orOther o (f n)) (h .1)) ∙ e) in
-        (i, omega arith, a, b))
+    let (i, l, a, b) = before (h .1 ∙ sym (ap (λ o. orOther o (f n)) (h .1)) ∙ e) in
+    (i, omega arith, a, b))
     (cases-option (first-said f n))
 
 not-both : (a b : Bool) → (not b || not a) ≡ not (a && b)

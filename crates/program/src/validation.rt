@@ -158,7 +158,11 @@ fn marked_refusal(program: ValidProgram, marked: bool, row: usize, places: usize
     requires { ⌜ row < row-count (now (program .numbers)) ⌝ }
     ensures { λ r. ⌜ r ≡ cond marked (absent places row (own-place (row-in (now (program .entry .numbers)) row))) None ⌝ }
 {
-    if marked { place_refusal(row, program.row_at(row).place(), places) } else { None }
+    if marked {
+        place_refusal(row, program.row_at(row).place(), places)
+    } else {
+        None
+    }
 }
 
 // A place that a reached row names and that isn't there, of the lowest such row.

@@ -9,5 +9,3 @@ mod reading;
 mod refusals;
 #[cfg(test)]
 mod rows;
-#[cfg(test)]
-mod said;

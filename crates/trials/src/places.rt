@@ -1,84 +1,88 @@
 // Refusal number 2: places that a reached row names and that aren't there, and too many places.
-use crate::said::many_places;
-use crate::said::missing;
-use crate::said::unknown;
 use program::Refusal;
-use program::RefusalDebug;
-use program::RefusalPartialEq;
 use program::validate;
 use std::test::*;
 
-// Numbers, a count of places, and what is said of them.
-#[derive(Drop)]
-struct Case<'a>(&'a [u32], usize, Option<Refusal>);
+fn taken(numbers: &[u32], places: usize) -> bool {
+    validate(numbers, places).is_none()
+}
 
-fn check_all(cases: &[Case]) -> Result<(), Fail> {
-    for case in cases.iter() {
-        check_eq(validate(case.0, case.1), case.2)?;
+// Refused since `row` names that place, and there are only so many.
+fn missing(numbers: &[u32], places: usize, row: usize, place: usize) -> bool {
+    match validate(numbers, places) {
+        Some(
+            Refusal::NoSuchPlace {
+                row: r,
+                place: p,
+                count,
+            },
+        ) => r == row && p == place && count == places,
+        _ => false,
     }
-    Ok(())
+}
+
+// Refused since there are too many places.
+fn too_many(numbers: &[u32], places: usize) -> bool {
+    match validate(numbers, places) {
+        Some(Refusal::TooManyPlaces { count, limit }) => count == places && limit == 1024,
+        _ => false,
+    }
 }
 
 #[test]
 fn at_the_edge() -> Result<(), Fail> {
-    let cases = [
-        Case(&[1, 2, 0, 0], 3, None),
-        Case(&[1, 3, 0, 0], 3, missing(0, 3, 3)),
-        Case(&[1, 0, 0, 0], 0, missing(0, 0, 0)),
-        Case(&[0, 9, 0, 0], 0, None),
-        Case(&[0, 9, 0, 0, 5, 2, 0, 0], 3, None),
-        Case(&[0, 9, 0, 0, 5, 3, 0, 0], 3, missing(1, 3, 3)),
-        Case(&[1, 4294967295, 0, 0], 1024, missing(0, 4294967295, 1024)),
-    ];
-    check_all(&cases)
+    check(taken(&[1, 2, 0, 0], 3))?;
+    check(missing(&[1, 3, 0, 0], 3, 0, 3))?;
+    check(missing(&[1, 0, 0, 0], 0, 0, 0))?;
+    check(taken(&[0, 9, 0, 0], 0))?;
+    check(taken(&[0, 9, 0, 0, 5, 2, 0, 0], 3))?;
+    check(missing(&[0, 9, 0, 0, 5, 3, 0, 0], 3, 1, 3))?;
+    check(taken(&[1, 1023, 0, 0], 1024))?;
+    check(missing(&[1, 1024, 0, 0], 1024, 0, 1024))?;
+    check(too_many(&[1, 1024, 0, 0], 1025))?;
+    check(too_many(&[0, 0, 0, 0], 1025))?;
+    check(missing(&[1, 4294967295, 0, 0], 4294967295, 0, 4294967295))?;
+    check(too_many(&[1, 4294967295, 0, 0], 4294967296))?;
+    check(too_many(&[1, 4294967295, 0, 0], 18446744073709551615))
 }
 
 // Row 0 names a place that isn't there: it is reached by each number of each kind that names a row.
 #[test]
 fn reached_by_each() -> Result<(), Fail> {
-    let cases = [
-        Case(&[1, 9, 0, 0, 1, 0, 0, 0, 2, 0, 1, 0], 1, missing(0, 9, 1)),
-        Case(&[1, 9, 0, 0, 1, 0, 0, 0, 3, 1, 0, 0], 1, missing(0, 9, 1)),
-        Case(&[1, 9, 0, 0, 1, 0, 0, 0, 4, 1, 0, 0], 1, missing(0, 9, 1)),
-        Case(&[1, 9, 0, 0, 1, 0, 0, 0, 5, 0, 0, 1], 1, missing(0, 9, 1)),
-        Case(&[1, 9, 0, 0, 1, 0, 0, 0, 6, 0, 1, 0], 1, missing(0, 9, 1)),
-        Case(&[1, 9, 0, 0, 1, 0, 0, 0, 7, 0, 1, 1], 1, missing(0, 9, 1)),
-        Case(&[1, 9, 0, 0, 1, 0, 0, 0, 7, 1, 0, 1], 1, missing(0, 9, 1)),
-        Case(&[1, 9, 0, 0, 1, 0, 0, 0, 7, 1, 1, 0], 1, missing(0, 9, 1)),
-        Case(&[1, 9, 0, 0, 1, 0, 0, 0, 8, 5, 0, 1], 1, missing(0, 9, 1)),
-        Case(&[1, 9, 0, 0, 1, 0, 0, 0, 8, 5, 1, 0], 1, missing(0, 9, 1)),
-    ];
-    check_all(&cases)
+    check(missing(&[1, 9, 0, 0, 1, 0, 0, 0, 2, 0, 1, 0], 1, 0, 9))?;
+    check(missing(&[1, 9, 0, 0, 1, 0, 0, 0, 2, 1, 0, 0], 1, 0, 9))?;
+    check(missing(&[1, 9, 0, 0, 1, 0, 0, 0, 3, 0, 1, 0], 1, 0, 9))?;
+    check(missing(&[1, 9, 0, 0, 1, 0, 0, 0, 3, 1, 0, 0], 1, 0, 9))?;
+    check(missing(&[1, 9, 0, 0, 1, 0, 0, 0, 4, 0, 1, 0], 1, 0, 9))?;
+    check(missing(&[1, 9, 0, 0, 1, 0, 0, 0, 4, 1, 0, 0], 1, 0, 9))?;
+    check(missing(&[1, 9, 0, 0, 1, 0, 0, 0, 5, 0, 0, 1], 1, 0, 9))?;
+    check(missing(&[1, 9, 0, 0, 1, 0, 0, 0, 6, 0, 1, 0], 1, 0, 9))?;
+    check(missing(&[1, 9, 0, 0, 1, 0, 0, 0, 6, 1, 0, 0], 1, 0, 9))?;
+    check(missing(&[1, 9, 0, 0, 1, 0, 0, 0, 7, 0, 1, 1], 1, 0, 9))?;
+    check(missing(&[1, 9, 0, 0, 1, 0, 0, 0, 7, 1, 0, 1], 1, 0, 9))?;
+    check(missing(&[1, 9, 0, 0, 1, 0, 0, 0, 7, 1, 1, 0], 1, 0, 9))?;
+    check(missing(&[1, 9, 0, 0, 1, 0, 0, 0, 8, 5, 0, 1], 1, 0, 9))?;
+    check(missing(&[1, 9, 0, 0, 1, 0, 0, 0, 8, 5, 1, 0], 1, 0, 9))
 }
 
 // A row that the last one doesn't reach turns nobody away, and numbers that name no row reach nothing.
 #[test]
 fn not_reached() -> Result<(), Fail> {
-    let cases = [
-        Case(&[1, 9, 0, 0, 0, 5, 0, 0], 1, None),
-        Case(&[1, 9, 0, 0, 0, 0, 0, 0], 1, None),
-        Case(&[1, 9, 0, 0, 1, 0, 0, 0, 2, 1, 1, 0], 1, None),
-        Case(&[1, 9, 0, 0, 1, 0, 0, 0, 5, 0, 1, 0], 1, None),
-        Case(&[1, 9, 0, 0, 1, 0, 0, 0, 8, 0, 1, 1], 1, None),
-        Case(&[1, 9, 0, 0, 2, 0, 0, 0, 0, 3, 0, 0], 1, None),
-    ];
-    check_all(&cases)
+    check(taken(&[1, 9, 0, 0, 0, 5, 0, 0], 1))?;
+    check(taken(&[1, 9, 0, 0, 0, 0, 0, 0], 1))?;
+    check(taken(&[1, 9, 0, 0, 1, 0, 0, 0, 2, 1, 1, 0], 1))?;
+    check(taken(&[1, 9, 0, 0, 1, 0, 0, 0, 5, 0, 1, 0], 1))?;
+    check(taken(&[1, 9, 0, 0, 1, 0, 0, 0, 8, 0, 1, 1], 1))?;
+    check(taken(&[1, 9, 0, 0, 2, 0, 0, 0, 0, 3, 0, 0], 1))
 }
 
 // Of several, the lowest row is said, whichever place is lower; then too many places; and number 1 before number 2.
 #[test]
 fn order() -> Result<(), Fail> {
-    let cases = [
-        Case(&[1, 9, 0, 0, 1, 8, 0, 0, 2, 0, 1, 0], 1, missing(0, 9, 1)),
-        Case(
-            &[1, 7, 0, 0, 1, 9, 0, 0, 1, 8, 0, 0, 2, 2, 1, 0],
-            5,
-            missing(1, 9, 5),
-        ),
-        Case(&[1, 2000, 0, 0], 1025, missing(0, 2000, 1025)),
-        Case(&[1, 2000, 0, 0], 2001, many_places(2001)),
-        Case(&[9, 0, 0, 0], 1025, unknown(0, 9)),
-        Case(&[], 1025, Some(Refusal::NoRows)),
-    ];
-    check_all(&cases)
+    check(missing(&[1, 9, 0, 0, 1, 8, 0, 0, 2, 0, 1, 0], 1, 0, 9))?;
+    check(missing(&[1, 7, 0, 0, 1, 9, 0, 0, 1, 8, 0, 0, 2, 2, 1, 0], 5, 1, 9))?;
+    check(missing(&[1, 2000, 0, 0], 1025, 0, 2000))?;
+    check(too_many(&[1, 2000, 0, 0], 2001))?;
+    check(matches!(validate(&[], 1025), Some(Refusal::NoRows)))?;
+    check(matches!(validate(&[9, 0, 0, 0], 1025), Some(Refusal::UnknownKind { .. })))
 }
