@@ -35,7 +35,7 @@ reason (UnknownKind row kind limit) = codes "row " ++ (decimal row ++ (codes " i
 reason (NotEarlier row named) = codes "row " ++ (decimal row ++ (codes " names row " ++ (decimal named ++ codes ", which is not earlier")))
 reason (NoSuchPlace row place count) = codes "row " ++ (decimal row ++ (codes " names place " ++ (decimal place ++ (codes ", and the count of places is " ++ decimal count))))
 reason (TooManyPlaces count limit) = decimal count ++ (codes " places, and a program works on " ++ (decimal limit ++ codes " at most"))
-reason (TooDear limit) = codes "the price is above " ++ decimal limit
+reason (TooDear row limit) = codes "the price is above " ++ (decimal limit ++ (codes " from row " ++ (decimal row ++ codes " on")))
 reason (RoomLength length places) = codes "the room is " ++ (decimal length ++ (codes " long, and the count of places is " ++ decimal places))
 reason (Unreadable line) = codes "line " ++ (decimal (line + 1) ++ codes " has a word that is not places, rows or a number of theirs below 4294967296")
 

@@ -61,12 +61,16 @@ impl fmt::Display for Reason as ReasonDisplay {
                 f,
                 "{count} places, and a program works on {limit} at most"
             ),
-            Refusal::TooDear { limit } => write!(f, "the price is above {limit}"),
+            Refusal::TooDear { row, limit } => write!(
+                f,
+                "the price is above {limit} from row {row} on"
+            ),
             Refusal::RoomLength { length, places } => write!(
                 f,
                 "the room is {length} long, and the count of places is {places}"
             ),
             Refusal::Unreadable { line } => {
+                // People count lines from 1, and the last line's number may be the largest.
                 let counted = line as u128 + 1;
                 write!(
                     f,

@@ -1,6 +1,8 @@
 // The command: reads places and rows from standard input and says whether the program is taken.
 mod answer;
 mod reader;
+#[cfg(test)]
+mod tests;
 
 use answer::AnswerDisplay;
 use answer::answer_of;

@@ -1,4 +1,12 @@
 // Reads a text of two statements, `places` and `rows`, each with its numbers; `#` starts a comment that ends with the line.
+ghost use mathlib.Core.Path.{_≡_};
+ghost use Prim.Native.Nat.{_<_};
+ghost use Rattle.std.specs.Numbers.{Checked};
+ghost use Rattle.std.specs.Reads.{value};
+ghost use Rattle.std.specs.Results.{Cases};
+ghost use Rattle.std.specs.Vec.{made};
+ghost use Rattle.program.specs.Refusal.{number-of};
+ghost use Rattle.purse.specs.Words.{Number, Takes};
 use program::Refusal;
 use std::alloc::AllocError;
 use std::alloc::Global;
@@ -20,16 +28,27 @@ pub(crate) struct Text {
 }
 
 // A number of decimal digits, below 2^32.
-fn number(word: &str) -> Option<u32> {
-    if word.starts_with('+') {
+fn number(word: &str) -> Option<u32>
+    ensures { λ r. ⌜ Checked r (Number (now (word .entry))) (value 10 (now (word .entry))) ⌝ }
+{
+    let bytes = word.as_bytes();
+    if bytes.is_empty() {
         return None;
     }
-    word.parse::<u32>().ok()
+    if bytes[0] == b'+' {
+        return None;
+    }
+    match word.parse::<u32>() {
+        Ok(number) => Some(number),
+        Err(_) => None,
+    }
 }
 
 impl Text {
     // One word more: the name of a statement, which starts its numbers anew, or a number. False where it is neither.
-    fn take_word(&mut self, word: &str) -> Result<bool, AllocError> {
+    fn take_word(&mut self, word: &str) -> Result<bool, AllocError>
+        ensures { λ r. ⌜ made r (λ fits. Takes (now (word .entry)) (now (self .entry)) (now (self .exit)) fits) ⌝ }
+    {
         if word == "places" {
             self.section = Section::Places;
             self.places.clear();
@@ -67,7 +86,9 @@ impl Text {
 }
 
 // What the bytes say, or the first line that can't be read. Bytes that aren't UTF-8 become a character that no word has.
-pub(crate) fn read(heap: Global, bytes: &[u8]) -> Result<Result<Text, Refusal>, AllocError> {
+pub(crate) fn read(heap: Global, bytes: &[u8]) -> Result<Result<Text, Refusal>, AllocError>
+    ensures { λ r. ⌜ made r (λ text. Cases text (λ _. Unit {0}) (λ refusal. number-of refusal ≡ 5)) ⌝ }
+{
     let whole = String::from_utf8_lossy(heap, bytes)?;
     let mut text = Text {
         places: Vec::new(heap),

@@ -1,0 +1,26 @@
+-- What one word of a text does. Assumes nothing.
+use mathlib.Core.Bool.{Bool, true, false}
+use mathlib.Core.List.{List, [], _∷_, _++_}
+use mathlib.Core.Path.{_≡_}
+use Prim.Native.Nat.{ℕ, _^_, _<_}
+use lib.Chars.{codes}
+use lib.ListN.{length}
+use Rattle.std.specs.Of.Vec.{vec-items}
+use Rattle.std.specs.Reads.{Digits, value}
+use Rattle.purse.specs.declared.reader.Section.{Section}
+use Rattle.purse.specs.declared.reader.Section.the-variants.{Start, Places, Rows}
+use Rattle.purse.specs.declared.reader.Text.{Text}
+
+-- decimal digits, one at least, that write a number below 2^32
+abbrev pub Number : List ℕ → Type 0
+Number bs = Digits 10 bs × (0 < length bs) × (value 10 bs < 2 ^ 32)
+
+-- a word turns the text s into t, and whether it fits: the name of a statement, which starts its numbers anew; a number of the statement
+-- that stands open; or, with nothing changed, a number where none stands open, or any other word
+pub data Takes (bs : List ℕ) (s t : Text) : Bool → Type 0 where
+  starts-places : bs ≡ codes "places" → t .section ≡ Places → vec-items (t .places) ≡ [] → vec-items (t .rows) ≡ vec-items (s .rows) → Takes bs s t true
+  starts-rows : bs ≡ codes "rows" → t .section ≡ Rows → vec-items (t .rows) ≡ [] → vec-items (t .places) ≡ vec-items (s .places) → Takes bs s t true
+  adds-place : Number bs → s .section ≡ Places → t .section ≡ Places → vec-items (t .places) ≡ vec-items (s .places) ++ value 10 bs ∷ [] → vec-items (t .rows) ≡ vec-items (s .rows) → Takes bs s t true
+  adds-row : Number bs → s .section ≡ Rows → t .section ≡ Rows → vec-items (t .rows) ≡ vec-items (s .rows) ++ value 10 bs ∷ [] → vec-items (t .places) ≡ vec-items (s .places) → Takes bs s t true
+  stands-alone : Number bs → s .section ≡ Start → t ≡ s → Takes bs s t false
+  is-no-word : (bs ≡ codes "places" → ⊥) → (bs ≡ codes "rows" → ⊥) → (Number bs → ⊥) → t ≡ s → Takes bs s t false
