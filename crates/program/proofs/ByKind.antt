@@ -1,16 +1,15 @@
 -- The split on the numbers of kinds, which happens here and nowhere else. Assumes nothing.
-use mathlib.Core.Bool.{Bool, true, false, _&&_, cond}
-use mathlib.Core.List.{List, [], _∷_}
+use mathlib.Core.Bool.{cond}
+use mathlib.Core.List.{List}
 use mathlib.Core.Path.{_≡_, refl, sym, ap, _∙_}
 use Prim.Native.Nat.{ℕ, zero, suc, _<_, _≤_}
-use lib.Dec.{leb, ltb, eqb}
+use lib.Dec.{eqb}
 use native.Mathlib.Omega.{arith}
-use Rattle.std.proofs.shelf.Tests.{cond-false, ne-eqb, lt-leb}
+use Rattle.std.proofs.shelf.Tests.{cond-false, ne-eqb}
 use Rattle.semantics.specs.Program.{Program}
-use Rattle.program.specs.Row.{by-kind, decoded, named, kind, first, second, third, row-in}
+use Rattle.program.specs.Row.{by-kind, decoded, kind, first, second, third, row-in}
 use Rattle.program.specs.Rows.{row-of, program-of}
-use Rattle.program.specs.declared.row.Row.{Row}
-use Rattle.program.specs.declared.row.Row.the-variants.{Constant, Place, Add, Multiply, Less, Store, Sequence, Choice, Loop}
+use Rattle.program.specs.declared.row.Row.the-variants.{Loop}
 
 -- a kind is one of the nine, or above them
 pub data Kind-case : ℕ → Type 0 where
@@ -41,7 +40,7 @@ kind-case (suc (suc (suc (suc (suc (suc (suc (suc (suc n))))))))) = above _ (ome
 other : {A : Type 0} (k j : ℕ) (x y : A) → j < k → cond (eqb k j) x y ≡ y
 other k j x y h = cond-false (eqb k j) x y (ne-eqb k j (λ e. omega arith))
 
-pub by-kind-last : {A : Type 0} (k : ℕ) (r₀ r₁ r₂ r₃ r₄ r₅ r₆ r₇ r₈ : A) → 8 ≤ k → by-kind k r₀ r₁ r₂ r₃ r₄ r₅ r₆ r₇ r₈ ≡ r₈
+by-kind-last : {A : Type 0} (k : ℕ) (r₀ r₁ r₂ r₃ r₄ r₅ r₆ r₇ r₈ : A) → 8 ≤ k → by-kind k r₀ r₁ r₂ r₃ r₄ r₅ r₆ r₇ r₈ ≡ r₈
 by-kind-last k r₀ r₁ r₂ r₃ r₄ r₅ r₆ r₇ r₈ h =
     other k 0 _ _ (omega arith) ∙ other k 1 _ _ (omega arith) ∙ other k 2 _ _ (omega arith) ∙ other k 3 _ _ (omega arith)
     ∙ other k 4 _ _ (omega arith) ∙ other k 5 _ _ (omega arith) ∙ other k 6 _ _ (omega arith) ∙ other k 7 _ _ (omega arith)

@@ -1,16 +1,15 @@
 -- Rows that are right name earlier rows only. Assumes nothing.
-use mathlib.Core.Bool.{Bool, true, false, _&&_, cond}
+use mathlib.Core.Bool.{Bool, true, false, _&&_}
 use mathlib.Core.List.{List, [], _∷_}
 use mathlib.Core.Path.{_≡_, refl, sym, ap, _∙_}
-use Prim.Native.Nat.{ℕ, zero, suc, _<_, _≤_}
+use Prim.Native.Nat.{ℕ, _<_}
 use lib.Dec.{leb, ltb, eqb}
 use native.Mathlib.Omega.{arith}
-use Rattle.std.proofs.shelf.Tests.{cond-false, ne-eqb, lt-leb, ltb-true, lt-ltb, and-parts, and-from, and-left}
+use Rattle.std.proofs.shelf.Tests.{cond-false, ne-eqb, lt-leb, ltb-true, and-parts, and-left}
 use Rattle.std.proofs.shelf.Ways.{decides-below-and}
-use Rattle.std.specs.Orderings.{Decides}
 use Rattle.std.specs.shelf.Lists.{All}
 use Rattle.program.specs.Row.{decoded, named, kind, row-in}
-use Rattle.program.specs.Rows.{numbers-ok, row-ok, rows-ok, row-count, Valid}
+use Rattle.program.specs.Rows.{numbers-ok, row-ok, rows-ok}
 use Rattle.program.proofs.ByKind.{Kind-case, is-0, is-1, is-2, is-3, is-4, is-5, is-6, is-7, is-8, above, kind-case}
 
 -- each of a list is earlier than row i
@@ -44,12 +43,12 @@ pub row-ok-is : (xs : List ℕ) (i : ℕ) → row-ok xs i ≡ (leb (kind xs i) 8
 unfolding row-ok
 row-ok-is xs i = ok-case i _ _ _ (kind-case (kind xs i))
 
-pub all-earlier : (i : ℕ) (js : List ℕ) → earlier i js ≡ true → All (λ j. j < i) js
+all-earlier : (i : ℕ) (js : List ℕ) → earlier i js ≡ true → All (λ j. j < i) js
 all-earlier i [] h = tt
 all-earlier i (j ∷ js) h = let p = and-parts (ltb j i) (earlier i js) h in (ltb-true j i (p .0), all-earlier i js (p .1))
 
 -- each of so many rows that are right is right
-pub row-ok-at : (xs : List ℕ) (n i : ℕ) → rows-ok xs n ≡ true → i < n → row-ok xs i ≡ true
+row-ok-at : (xs : List ℕ) (n i : ℕ) → rows-ok xs n ≡ true → i < n → row-ok xs i ≡ true
 unfolding rows-ok
 row-ok-at xs n i h = decides-below-and (row-ok xs) (λ k. row-ok xs k ≡ true) (rows-ok xs) (λ k. (λ e. e, λ e. e)) refl (λ k. refl) n .0 h i
 

@@ -1,25 +1,25 @@
 -- The numbers and the rows that refusals say. Assumes nothing.
-use mathlib.Core.Bool.{Bool, true, false, not, cond}
+use mathlib.Core.Bool.{Bool, true, false, not, _&&_, cond}
 use mathlib.Core.List.{List}
 use mathlib.Core.Logic.{⊎-elim}
-use mathlib.Core.Path.{_≡_, refl, sym, ap, subst, _∙_}
-use Prim.Native.Nat.{ℕ, zero, suc, _*_, _<_, _≤_}
+use mathlib.Core.Path.{_≡_, refl, sym, ap, _∙_}
+use Prim.Native.Nat.{ℕ, zero, suc, _*_, _<_}
 use lib.Dec.{leb, eqb}
 use lib.ListN.{length}
 use native.Mathlib.Omega.{arith}
-use Rattle.std.proofs.shelf.Tests.{false≢true, cond-true, cond-false, eq-eqb, ne-eqb, le-leb, not-true, not-false, cases-bool}
+use Rattle.std.proofs.shelf.Tests.{true≢false, false≢true, cond-true, cond-false, eq-eqb, ne-eqb, le-leb, not-true, not-false, cases-bool}
 use Rattle.std.specs.Options.{isSome, mapped, orOther}
 use Rattle.std.specs.declared.option.Option.{Option}
 use Rattle.std.specs.declared.option.Option.the-variants.{Some, None}
 use Rattle.program.specs.Row.{kind, named, row-in}
 use Rattle.program.specs.Rows.{row-count, rows-ok, row-ok, shaped}
-use Rattle.program.specs.Refusal.{number-of, place-of}
-use Rattle.program.specs.Validation.{answered, refusal-number, rows-taken, first-said, first-not-earlier, kind-refusal, row-refusal, shape-refusal, rows-refusal, places-refusal, places-taken, program-refusal}
+use Rattle.program.specs.Refusal.{place-of}
+use Rattle.program.specs.Validation.{answered, refusal-number, rows-taken, first-said, first-not-earlier, kind-refusal, row-refusal, shape-refusal, rows-refusal, places-refusal, program-refusal}
 use Rattle.program.specs.declared.refusal.Refusal.{Refusal}
-use Rattle.program.specs.declared.refusal.Refusal.the-variants.{UnknownKind, NotEarlier}
+use Rattle.program.specs.declared.refusal.Refusal.the-variants.{CutShort, NoRows, TooManyRows, UnknownKind, NotEarlier}
 use Rattle.program.proofs.Placing.{places-number}
 use Rattle.program.proofs.Options.{none-some}
-use Rattle.program.proofs.Refusing.{said-some-at, row-refusal-some, scan-some, rows-refusal-some, taken-valid, valid-unrefused}
+use Rattle.program.proofs.Refusing.{one-or-more, said-some-at, row-refusal-some, scan-some, rows-refusal-some, taken-valid, valid-unrefused}
 use Rattle.program.proofs.Shape.{Shape, shape-of}
 
 -- what is said, if anything, is number 1
@@ -93,3 +93,18 @@ lowest-row xs r h e =
       ap (rows-ok xs) at ∙ not-false (rows-ok xs i) (sym (scan-some xs i) ∙ ap isSome before),
       ap (row-ok xs) at ∙ not-true (row-ok xs i) (sym (row-refusal-some xs i) ∙ ap isSome here),
     )
+
+-- of numbers out of shape, by what is wrong with them
+unshaped-case : (whole none few : Bool) (i n : ℕ) (o : Option Refusal) (r : Refusal) → (whole && (not none && few)) ≡ false →
+    orOther (cond whole (cond none (Some NoRows) (cond few None (Some (TooManyRows i 256)))) (Some (CutShort i n))) o ≡ Some r → place-of r ≡ cond whole (cond none 0 256) i
+unshaped-case true true few i n o r h e = let same : NoRows ≡ r = cc in sym (ap place-of same)
+unshaped-case true false true i n o r h e = absurd (true≢false h)
+unshaped-case true false false i n o r h e = let same : TooManyRows i 256 ≡ r = cc in sym (ap place-of same)
+unshaped-case false none few i n o r h e = let same : CutShort i n ≡ r = cc in sym (ap place-of same)
+
+pub unshaped-row : (xs : List ℕ) (r : Refusal) → shaped xs ≡ false → rows-refusal xs ≡ Some r →
+    place-of r ≡ cond (eqb (length xs) (4 * row-count xs)) (cond (eqb (row-count xs) 0) 0 256) (row-count xs)
+unfolding shaped
+unshaped-row xs r h e =
+    unshaped-case (eqb (length xs) (4 * row-count xs)) (eqb (row-count xs) 0) (leb (row-count xs) 256) (row-count xs) (length xs) (first-said (row-refusal xs) (row-count xs)) r
+    (ap (λ t. eqb (length xs) (4 * row-count xs) && (t && leb (row-count xs) 256)) (sym (one-or-more (row-count xs))) ∙ h) e

@@ -1,5 +1,5 @@
 -- Options: one or another, none or some. Assumes nothing.
-use mathlib.Core.Bool.{Bool, true, false, _||_}
+use mathlib.Core.Bool.{false, _||_}
 use mathlib.Core.Logic.{_⊎_, inl, inr}
 use mathlib.Core.Path.{_≡_, refl, sym, ap}
 use Rattle.std.proofs.shelf.Tests.{true≢false}

@@ -1,14 +1,14 @@
 -- The program at a row: the depth doesn't matter, and a row stands for what the rows that it names stand for. Assumes nothing.
-use mathlib.Core.Bool.{Bool, true}
-use mathlib.Core.List.{List, [], _∷_}
+use mathlib.Core.Bool.{true}
+use mathlib.Core.List.{List}
 use mathlib.Core.Path.{_≡_, refl, sym, ap, subst, _∙_}
-use Prim.Native.Nat.{ℕ, zero, suc, _-_, _<_, _≤_}
+use Prim.Native.Nat.{ℕ, zero, suc, _-_, _<_}
 use native.Mathlib.Omega.{arith}
 use Rattle.std.specs.shelf.Lists.{All}
 use Rattle.std.proofs.shelf.Elements.{all-weaker}
 use Rattle.semantics.specs.Program.{Program, added, times, less, set, after, if-not-nought, again}
 use Rattle.program.specs.Row.{decoded, named, kind, first, second, third, row-in}
-use Rattle.program.specs.Rows.{row-count, rows-ok, shaped, program-at, program-in, program-of, at-row, Valid}
+use Rattle.program.specs.Rows.{row-count, rows-ok, program-at, program-in, program-of, at-row, Valid}
 use Rattle.program.specs.Reads.{Reads}
 use Rattle.program.specs.Laws.{Equations}
 use Rattle.program.specs.declared.row.Row.{Row}

@@ -1,5 +1,5 @@
 -- What a row reaches: the test and the relation agree, and both agree with the program that the row stands for. Assumes nothing.
-use mathlib.Core.Bool.{Bool, true, false, _||_}
+use mathlib.Core.Bool.{Bool, true, _||_}
 use mathlib.Core.List.{List, [], _∷_, map, List·Memᴰ, List·Memᴰ·head, List·Memᴰ·tail, List·Memᴰ·not-nil}
 use mathlib.Core.Logic.{_⊎_, inl, inr, ⊎-elim}
 use mathlib.Core.Path.{_≡_, refl, sym, ap, subst, _∙_}
@@ -8,8 +8,7 @@ use lib.Dec.{eqb}
 use native.Mathlib.Omega.{arith}
 use Rattle.std.proofs.shelf.Tests.{false≢true, eqb-true, eq-eqb, or-cases, or-left, or-right}
 use Rattle.std.specs.Orderings.{Decides}
-use Rattle.std.specs.declared.option.Option.{Option}
-use Rattle.std.specs.declared.option.Option.the-variants.{Some, None}
+use Rattle.std.specs.declared.option.Option.the-variants.{Some}
 use Rattle.std.specs.shelf.Lists.{All}
 use Rattle.semantics.specs.Program.{Program, fits, names, parts, Within, whole, inside}
 use Rattle.semantics.proofs.Members.{all-member, all-from-members, member-map, map-member}
@@ -35,7 +34,7 @@ member-any f (k ∷ js) (List·Memᴰ·head i) e = or-left (f k) (any f js) (sub
 member-any f (k ∷ js) (List·Memᴰ·tail m) e = or-right (f k) (any f js) (member-any f js m e)
 
 -- a row that passes the test is reached
-pub reaches-by-sound : (xs : List ℕ) (s i k : ℕ) → reaches-by xs s i k ≡ true → Reaches xs k i
+reaches-by-sound : (xs : List ℕ) (s i k : ℕ) → reaches-by xs s i k ≡ true → Reaches xs k i
 unfolding reaches-by
 reaches-by-sound xs zero i k h = itself (eqb-true k i h)
 reaches-by-sound xs (suc s) i k h =
@@ -101,7 +100,7 @@ module _ (xs : List ℕ) (n : ℕ) (ok : rows-ok xs n ≡ true) where
       omega arith
 
   -- a row that is reached passes the test
-  pub reaches-by-complete : (s k : ℕ) {i : ℕ} → i < n → i ≤ s → Reaches xs k i → reaches-by xs s i k ≡ true
+  reaches-by-complete : (s k : ℕ) {i : ℕ} → i < n → i ≤ s → Reaches xs k i → reaches-by xs s i k ≡ true
   unfolding reaches-by
   reaches-by-complete zero k {i} l h (itself e) = eq-eqb k i e
   reaches-by-complete (suc s) k {i} l h (itself e) = or-left (eqb k i) _ (eq-eqb k i e)
@@ -132,13 +131,13 @@ module _ (xs : List ℕ) (n : ℕ) (ok : rows-ok xs n ≡ true) where
       (reached-within k {i = j} (omega arith) r)
 
   -- a place that a reached row names by itself is named by the program
-  pub own-named : (p k i : ℕ) → i < n → Reaches xs k i → own-place (row-in xs k) ≡ Some p → names p (at-row xs i) ≡ true
+  own-named : (p k i : ℕ) → i < n → Reaches xs k i → own-place (row-in xs k) ≡ Some p → names p (at-row xs i) ≡ true
   own-named p k i l r e =
       let h : k ≤ i = reaches-back k l r in
       names-within p (reached-within k l r) (subst (λ (t : Program). names p t ≡ true) (sym (at-row-is xs n k ok (omega arith))) (own-names p (at-row xs) (row-in xs k) e))
 
   -- and a place that the program names is named by a reached row
-  pub named-own : (p d i : ℕ) → i < d → i < n → names p (at-row xs i) ≡ true → (k : ℕ) × Reaches xs k i × (own-place (row-in xs k) ≡ Some p)
+  named-own : (p d i : ℕ) → i < d → i < n → names p (at-row xs i) ≡ true → (k : ℕ) × Reaches xs k i × (own-place (row-in xs k) ≡ Some p)
   named-own p zero i h l m = absurd (omega arith)
   named-own p (suc d) i h l m =
       ⊎-elim (λ e. (i, itself refl, e))

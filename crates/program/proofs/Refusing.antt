@@ -9,7 +9,7 @@ use lib.ListN.{length}
 use native.Mathlib.Numerals.{add-one}
 use native.Mathlib.Omega.{arith}
 use Rattle.std.proofs.shelf.Tests.{true≢false, false≢true, ne-eqb, le-leb, and-parts, and-from, not-false, not-from-false, cases-lt}
-use Rattle.std.specs.Options.{isSome, mapped, orOther}
+use Rattle.std.specs.Options.{isSome, orOther}
 use Rattle.std.specs.declared.option.Option.{Option}
 use Rattle.std.specs.declared.option.Option.the-variants.{Some, None}
 use Rattle.program.specs.Row.{kind, named, row-in}
@@ -24,7 +24,7 @@ at-end : (i n : ℕ) → i ≤ suc n → (i ≡ suc n) ⊎ (i ≤ n)
 at-end i n h = ⊎-elim (λ l. inr (omega arith)) (λ l. inl (omega arith)) (cases-lt i (suc n))
 
 -- a scan that said something says it to the end
-pub said-on : (f : ℕ → Option Refusal) (r : Refusal) (i n : ℕ) → first-said f i ≡ Some r → i ≤ n → first-said f n ≡ Some r
+said-on : (f : ℕ → Option Refusal) (r : Refusal) (i n : ℕ) → first-said f i ≡ Some r → i ≤ n → first-said f n ≡ Some r
 unfolding first-said
 said-on f r i zero e h = let z : i ≡ 0 = omega arith in subst (λ (k : ℕ). first-said f k ≡ Some r) z e
 said-on f r i (suc n) e h =
@@ -42,11 +42,7 @@ unfolding first-said
 said-nothing f i None e here none = ap (first-said f) (add-one i) ∙ ap (λ o. orOther o (f i)) e ∙ sym here
 said-nothing f i (Some r) e here none = absurd (true≢false none)
 
--- a scan by its last row
-pub said-last : (f : ℕ → Option Refusal) (i : ℕ) → first-said f (i + 1) ≡ orOther (first-said f i) (f i)
-unfolding first-said
-said-last f i = ap (first-said f) (add-one i)
-
+-- of no row nothing is said
 pub said-none : (f : ℕ → Option Refusal) → first-said f 0 ≡ None
 unfolding first-said
 said-none f = refl
@@ -103,7 +99,7 @@ scan-some xs zero = refl
 scan-some xs (suc n) =
     some-of-either (first-said (row-refusal xs) n) (row-refusal xs n) ∙ (λ t. scan-some xs n t || row-refusal-some xs n t) ∙ not-both (row-ok xs n) (rows-ok xs n)
 
-one-or-more : (n : ℕ) → leb 1 n ≡ not (eqb n 0)
+pub one-or-more : (n : ℕ) → leb 1 n ≡ not (eqb n 0)
 one-or-more zero = refl
 one-or-more (suc n) = le-leb 1 (suc n) (omega arith) ∙ sym (not-from-false _ (ne-eqb (suc n) 0 (λ e. omega arith)))
 

@@ -2,7 +2,7 @@
 use mathlib.Core.Bool.{true}
 use mathlib.Core.List.{List}
 use mathlib.Core.Path.{_≡_, refl}
-use Prim.Native.Nat.{ℕ, zero, suc, _+_, _*_, _/_, _<_, _≤_}
+use Prim.Native.Nat.{ℕ, zero, suc, _*_, _/_, _≤_}
 use lib.Dec.{leb, eqb}
 use lib.ListN.{length}
 use native.Mathlib.Omega.{arith}
@@ -30,7 +30,3 @@ shape-of xs h =
     let p = and-parts (eqb (length xs) (4 * row-count xs)) _ h in
     let q = and-parts (leb 1 (row-count xs)) _ (p .1) in
     record { whole = eqb-true _ _ (p .0); some = leb-true 1 _ (q .0); few = leb-true _ 256 (q .1) }
-
--- row i's four numbers are there
-pub row-within : (xs : List ℕ) (i : ℕ) → shaped xs ≡ true → i < row-count xs → 4 * i + 4 ≤ length xs
-row-within xs i h l = let s : Shape xs = shape-of xs h in omega arith

@@ -1,7 +1,6 @@
--- What the ghost fields of validated programs say, as facts about their numbers. Assumes nothing.
+-- What the ghost fields of validated programs say, as facts about their numbers, for this crate and those above it. Assumes nothing.
 use mathlib.Core.Bool.{true}
 use mathlib.Core.Path.{_≡_}
-use lib.Dec.{leb}
 use Prim.Native.Nat.{_≤_}
 use Rattle.std.proofs.shelf.Tests.{leb-true}
 use Rattle.semantics.specs.Program.{fits}

@@ -1,8 +1,9 @@
 -- What holds of programs in rows: statements, each on the contract of a function of src/laws.rt.
-use mathlib.Core.Bool.{true, false}
+use mathlib.Core.Bool.{true, false, cond}
 use mathlib.Core.List.{List}
 use mathlib.Core.Path.{_≡_}
-use Prim.Native.Nat.{ℕ, _-_, _<_, _≤_}
+use Prim.Native.Nat.{ℕ, _*_, _-_, _<_, _≤_}
+use lib.Dec.{eqb}
 use lib.ListN.{length}
 use Rattle.std.specs.Orderings.{Decides}
 use Rattle.std.specs.shelf.Lists.{All}
@@ -72,6 +73,12 @@ Valid-if-unrefused = (xs : List ℕ) → (rows-refusal xs ≡ None → Valid xs)
 -- the refusal that is answered has the number that the rules give
 abbrev pub Answered-by-number : Type 0
 Answered-by-number = (xs : List ℕ) (n : ℕ) → answered (program-refusal xs n) ≡ refusal-number xs n
+
+-- of numbers out of shape, a refusal says the row that is cut short, or 0 where there is none, or 256 where there are too many
+abbrev pub Unshaped-row : Type 0
+Unshaped-row =
+    (xs : List ℕ) (r : Refusal) → shaped xs ≡ false → rows-refusal xs ≡ Some r →
+    place-of r ≡ cond (eqb (length xs) (4 * row-count xs)) (cond (eqb (row-count xs) 0) 0 256) (row-count xs)
 
 -- of rows in shape, the row that a refusal says is the lowest that is wrong
 abbrev pub Lowest-row : Type 0

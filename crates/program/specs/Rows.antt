@@ -38,7 +38,7 @@ program-at xs (suc f) i = row-of (program-at xs f) (kind xs i) (first xs i) (sec
 unfoldable pub program-in : List ℕ → Program
 program-in xs = program-at xs (row-count xs) (row-count xs - 1)
 
--- k is a kind there is, and the rows that it has among its numbers are earlier than row i
+-- the numbers of row i are right: its kind is 8 at most, and the rows that a row of that kind names are earlier
 unfoldable pub numbers-ok : (i k a b c : ℕ) → Bool
 numbers-ok i k a b c =
     cond (leb k 1) true
@@ -47,11 +47,11 @@ numbers-ok i k a b c =
     (cond (eqb k 7) (ltb a i && (ltb b i && ltb c i))
     (leb k 8 && (ltb a i && ltb b i)))))
 
--- row i is of a kind there is, and names earlier rows only
+-- row i is right: its kind is 8 at most, and it names earlier rows only
 unfoldable pub row-ok : List ℕ → ℕ → Bool
 row-ok xs i = numbers-ok i (kind xs i) (first xs i) (second xs i) (third xs i)
 
--- so is each of so many first rows
+-- each of the first so many rows is right
 unfoldable pub rows-ok : List ℕ → ℕ → Bool
 rows-ok xs zero = true
 rows-ok xs (suc i) = row-ok xs i && rows-ok xs i

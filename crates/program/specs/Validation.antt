@@ -1,5 +1,5 @@
 -- Which refusal a program in rows and a count of places get: the first that applies, by number and then by row. Assumes nothing.
-use mathlib.Core.Bool.{Bool, true, _&&_, cond}
+use mathlib.Core.Bool.{Bool, _&&_, cond}
 use mathlib.Core.List.{List, [], _∷_}
 use Prim.Native.Nat.{ℕ, zero, suc, _*_}
 use lib.Dec.{ltb, leb, eqb}
@@ -15,7 +15,7 @@ use Rattle.program.specs.Refusal.{number-of}
 use Rattle.program.specs.declared.refusal.Refusal.{Refusal}
 use Rattle.program.specs.declared.refusal.Refusal.the-variants.{CutShort, NoRows, TooManyRows, UnknownKind, NotEarlier, NoSuchPlace, TooManyPlaces}
 
--- the numbers are 1 to 256 rows of four, of kinds there are, that name earlier rows only
+-- the numbers are 1 to 256 rows of four, none of a kind above 8, that name earlier rows only
 unfoldable pub rows-taken : List ℕ → Bool
 rows-taken xs = eqb (length xs) (4 * row-count xs) && (leb 1 (row-count xs) && (leb (row-count xs) 256 && rows-ok xs (row-count xs)))
 
@@ -42,11 +42,11 @@ abbrev pub first-not-earlier : ℕ → List ℕ → Option ℕ
 first-not-earlier i [] = None
 first-not-earlier i (j ∷ js) = cond (ltb j i) (first-not-earlier i js) (Some j)
 
--- row i is of a kind that there isn't
+-- row i is of a kind above 8
 abbrev pub kind-refusal : (i kind : ℕ) → Option Refusal
 kind-refusal i k = cond (leb k 8) None (Some (UnknownKind i k 8))
 
--- row i names a row that isn't earlier: the first such
+-- row i names a row that isn't earlier: the first that it names
 abbrev pub order-refusal : ℕ → (named : List ℕ) → Option Refusal
 order-refusal i js = mapped (NotEarlier i) (first-not-earlier i js)
 

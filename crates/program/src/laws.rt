@@ -1,5 +1,5 @@
 // The laws of programs in rows: each function carries one, so that its proof is owed.
-ghost use Rattle.program.specs.Laws.{Rows-by-fours, Depth-does-not-matter, Rows-stand-for-programs, Reach-is-membership, Reached-is-reach, Names-what-is-reached, Fits-what-is-reached, Fits-row-by-row, Valid-if-unrefused, Answered-by-number, Lowest-row, Lowest-place};
+ghost use Rattle.program.specs.Laws.{Rows-by-fours, Depth-does-not-matter, Rows-stand-for-programs, Reach-is-membership, Reached-is-reach, Names-what-is-reached, Fits-what-is-reached, Fits-row-by-row, Valid-if-unrefused, Answered-by-number, Unshaped-row, Lowest-row, Lowest-place};
 
 // Numbers are as many rows as there are fours among them.
 pub fn rows_by_fours() -> u8
@@ -67,6 +67,13 @@ pub fn valid_if_unrefused() -> u8
 // The refusal that `validate` answers has the number that the rules give, and none is answered where they give none.
 pub fn answered_by_number() -> u8
     ensures { λ _. ⌜ Answered-by-number ⌝ }
+{
+    0
+}
+
+// Of numbers out of shape, a refusal says the row that is cut short, or 0 where there is none, or 256 where there are too many.
+pub fn unshaped_row() -> u8
+    ensures { λ _. ⌜ Unshaped-row ⌝ }
 {
     0
 }

@@ -89,7 +89,7 @@ fn scan_refusal(numbers: &[u32], rows: usize) -> Option<Refusal>
     None
 }
 
-// Numbers that aren't 1 to 256 rows of four.
+// A count of numbers that isn't that of 1 to 256 rows.
 fn shape_refusal(count: usize, rows: usize) -> Option<Refusal>
     requires { ⌜ 4 * rows ≤ count ⌝ }
     ensures { λ r. ⌜ r ≡ shape-refusal count rows ⌝ }

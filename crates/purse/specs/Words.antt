@@ -7,7 +7,6 @@ use lib.Chars.{codes}
 use lib.ListN.{length}
 use Rattle.std.specs.Of.Vec.{vec-items}
 use Rattle.std.specs.Reads.{Digits, value}
-use Rattle.purse.specs.declared.reader.Section.{Section}
 use Rattle.purse.specs.declared.reader.Section.the-variants.{Start, Places, Rows}
 use Rattle.purse.specs.declared.reader.Text.{Text}
 

@@ -1,5 +1,5 @@
-use mathlib.Core.Path.{ap, _∙_}
-use lib.ListN.{length, getD}
+use mathlib.Core.Path.{ap}
+use lib.ListN.{getD}
 use native.Mathlib.Omega.{arith}
 use Rattle.std.proofs.shelf.Numerals.{digit-at}
 use Rattle.purse.proofs.reader.number.Needs as need
