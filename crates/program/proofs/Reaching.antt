@@ -7,14 +7,17 @@ use Prim.Native.Nat.{ℕ, zero, suc, _-_, _<_, _≤_}
 use lib.Dec.{eqb}
 use native.Mathlib.Omega.{arith}
 use Rattle.std.proofs.shelf.Tests.{false≢true, eqb-true, eq-eqb, or-cases, or-left, or-right}
+use Rattle.std.specs.Options.{Cases}
 use Rattle.std.specs.Orderings.{Decides}
-use Rattle.std.specs.declared.option.Option.the-variants.{Some}
+use Rattle.std.specs.declared.option.Option.{Option}
+use Rattle.std.specs.declared.option.Option.the-variants.{Some, None}
 use Rattle.std.specs.shelf.Lists.{All}
 use Rattle.semantics.specs.Program.{Program, fits, names, parts, Within, whole, inside}
 use Rattle.semantics.proofs.Members.{all-member, all-from-members, member-map, map-member}
 use Rattle.semantics.proofs.Naming.{fits-below, fits-from-names, fits-within, names-within}
 use Rattle.program.specs.Row.{named, row-in, own-place}
 use Rattle.program.specs.Rows.{row-count, rows-ok, program-in, program-of, at-row, Valid}
+use Rattle.program.specs.Reads.{Reads, There, Fits-reads}
 use Rattle.program.specs.Reach.{Reaches, itself, through, any, reaches-by, reached}
 use Rattle.program.specs.declared.row.Row.{Row}
 use Rattle.program.specs.declared.row.Row.the-variants.{Constant, Place, Add, Multiply, Less, Store, Sequence, Choice, Loop}
@@ -66,6 +69,10 @@ own-names p m (Store i value) e = or-left (eqb p i) _ (eq-eqb p i (cc))
 own-names p m (Sequence one two) e = cc
 own-names p m (Choice condition then otherwise) e = cc
 own-names p m (Loop limit count body) e = cc
+
+there-if : (n : ℕ) (o : Option ℕ) → ((p : ℕ) → o ≡ Some p → p < n) → Cases o (Unit {0}) (λ p. p < n)
+there-if n None h = tt
+there-if n (Some p) h = h p refl
 
 -- what a row names by two rows, one of them names
 by-two : (p : ℕ) (m : ℕ → Program) (a b : ℕ) {js : List ℕ} → (names p (m a) || names p (m b)) ≡ true → (j : ℕ) × List·Memᴰ j (a ∷ b ∷ js) × (names p (m j) ≡ true)
@@ -148,12 +155,12 @@ module _ (xs : List ℕ) (n : ℕ) (ok : rows-ok xs n ≡ true) where
       (names-of p (at-row xs) (row-in xs i) (subst (λ (t : Program). names p t ≡ true) (at-row-is xs n i ok l) m))
 
   -- a row's program fits: so do the programs at the rows that it names, and the place that it names by itself is there
-  pub fits-row : (m i : ℕ) → i < n → fits m (at-row xs i) ≡ true → All (λ j. fits m (at-row xs j) ≡ true) (named (row-in xs i)) × ((p : ℕ) → own-place (row-in xs i) ≡ Some p → p < m)
+  pub fits-row : (m i : ℕ) → i < n → fits m (at-row xs i) ≡ true → All (λ j. fits m (at-row xs j) ≡ true) (named (row-in xs i)) × There m (row-in xs i)
   fits-row m i l f = (
     all-from-members (λ j. fits m (at-row xs j) ≡ true) (named (row-in xs i)) (λ j mj.
         let h : j < i = member-earlier i j l mj in
         fits-within m (reached-within j l (through j mj (itself refl))) f),
-    λ p e. fits-below m p (at-row xs i) f (own-named p i i l (itself refl) e),
+    there-if m (own-place (row-in xs i)) (λ p e. fits-below m p (at-row xs i) f (own-named p i i l (itself refl) e)),
   )
 
 -- of a whole program: the last row
@@ -179,3 +186,13 @@ module _ (xs : List ℕ) (v : Valid xs) where
 
   pub reached-fits : (n : ℕ) → ((k p : ℕ) → Reaches xs k (row-count xs - 1) → own-place (row-in xs k) ≡ Some p → p < n) → fits n (program-in xs) ≡ true
   reached-fits n h = fits-from-names n (program-in xs) (λ p m. let (k, r, e) = names-reached p .0 m in h k p r e)
+
+-- what is known of a row that is read where its program fits
+pub read-fitting : (xs : List ℕ) (n i : ℕ) (r : Row) → Valid xs → i < row-count xs → fits n (at-row xs i) ≡ true → Reads xs i r → Fits-reads xs n i r
+read-fitting xs n i r v l f known =
+    let parts = fits-row xs (row-count xs) (v .order) n i l f in
+    record {
+      reads = known;
+      parts = subst (λ (x : Row). All (λ j. fits n (at-row xs j) ≡ true) (named x)) (sym (known .row)) (parts .0);
+      there = subst (There n) (sym (known .row)) (parts .1);
+    }

@@ -11,6 +11,7 @@ use Rattle.std.specs.declared.option.Option.the-variants.{Some, None}
 use Rattle.semantics.specs.Program.{Program, constant, place, added, times, less, set, after, if-not-nought, again, fits, names, Within}
 use Rattle.program.specs.Row.{kind, first, second, third, row-in, named, own-place}
 use Rattle.program.specs.Rows.{row-count, by-fours, rows-ok, row-ok, shaped, program-at, program-in, at-row, Valid}
+use Rattle.program.specs.Reads.{There}
 use Rattle.program.specs.Reach.{Reaches, reached}
 use Rattle.program.specs.Refusal.{place-of}
 use Rattle.program.specs.Validation.{answered, refusal-number, rows-refusal, count-refusal, places-refusal, program-refusal}
@@ -64,7 +65,7 @@ Fits-what-is-reached =
 abbrev pub Fits-row-by-row : Type 0
 Fits-row-by-row =
     (xs : List ℕ) (n i : ℕ) → Valid xs → i < row-count xs → fits n (at-row xs i) ≡ true →
-    All (λ j. fits n (at-row xs j) ≡ true) (named (row-in xs i)) × ((p : ℕ) → own-place (row-in xs i) ≡ Some p → p < n)
+    All (λ j. fits n (at-row xs j) ≡ true) (named (row-in xs i)) × There n (row-in xs i)
 
 -- number 1 is answered of just the numbers that aren't valid
 abbrev pub Valid-if-unrefused : Type 0

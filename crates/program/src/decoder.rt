@@ -1,9 +1,11 @@
 // How validated programs are made, and how their rows are read.
+ghost use mathlib.Core.Bool.{true};
 ghost use mathlib.Core.Path.{_≡_};
 ghost use Prim.Native.Nat.{_<_};
 ghost use Rattle.std.specs.declared.option.Option.the-variants.{None};
-ghost use Rattle.program.specs.Rows.{row-count};
-ghost use Rattle.program.specs.Reads.{Reads, Last};
+ghost use Rattle.semantics.specs.Program.{fits};
+ghost use Rattle.program.specs.Rows.{row-count, at-row};
+ghost use Rattle.program.specs.Reads.{Reads, Last, Fits-reads};
 ghost use Rattle.program.specs.Validation.{rows-refusal, program-refusal};
 use crate::fitting::FittingProgram;
 use crate::limits::ROW_LENGTH;
@@ -51,5 +53,14 @@ impl<'a> FittingProgram<'a> {
     {
         let program = ValidProgram::new(numbers);
         FittingProgram { program, places }
+    }
+
+    // The row of that number, where its program fits: so do the programs at the rows that it names, and the place that it names is there.
+    pub fn row_at(self, row: usize) -> Row
+        requires within { ⌜ row < row-count (now (self .program .numbers)) ⌝ }
+        requires fit { ⌜ fits (self .places) (at-row (now (self .program .numbers)) row) ≡ true ⌝ }
+        ensures { λ r. ⌜ Fits-reads (now (self .entry .program .numbers)) (self .entry .places) row r ⌝ }
+    {
+        self.program.row_at(row)
     }
 }

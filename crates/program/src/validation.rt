@@ -41,7 +41,7 @@ fn not_earlier(row: usize, rows: Named) -> Option<usize>
     }
 }
 
-// A kind above the greatest.
+// A kind above the last there is.
 fn kind_refusal(row: usize, kind: u32) -> Option<Refusal>
     ensures { λ r. ⌜ r ≡ kind-refusal row kind ⌝ }
 {

@@ -79,7 +79,9 @@ fn reached() -> Result<(), Fail> {
             let table = reached_rows(fitting.program);
             check(fitting.places == 1 && fitting.program.row_count() == 4)?;
             check(!table[0] && table[1] && !table[2] && table[3])?;
-            check(!table[4] && !table[255])
+            check(!table[4] && !table[255])?;
+            let last = fitting.row_at(fitting.program.last_row());
+            check(matches!(last, Row::Multiply { left: 1, right: 1 }))
         }
     }
 }
