@@ -23,3 +23,20 @@ pub data Takes (bs : List ℕ) (s t : Text) : Bool → Type 0 where
   adds-row : Number bs → s .section ≡ Rows → t .section ≡ Rows → vec-items (t .rows) ≡ vec-items (s .rows) ++ value 10 bs ∷ [] → vec-items (t .places) ≡ vec-items (s .places) → Takes bs s t true
   stands-alone : Number bs → s .section ≡ Start → t ≡ s → Takes bs s t false
   is-no-word : (bs ≡ codes "places" → ⊥) → (bs ≡ codes "rows" → ⊥) → (Number bs → ⊥) → t ≡ s → Takes bs s t false
+
+-- words that take the text s to t one after another; all but the last fit, and whether the last does
+pub data Takes-each (s : Text) : List (List ℕ) → Text → Bool → Type 0 where
+  takes-none : Takes-each s [] s true
+  takes-next : (ws : List (List ℕ)) (t : Text) (w : List ℕ) (u : Text) (fits : Bool) → Takes-each s ws t true → Takes w t u fits → Takes-each s (ws ++ w ∷ []) u fits
+
+-- some words take s to t
+abbrev pub By-words : Text → Text → Bool → Type 0
+By-words s t fits = (ws : List (List ℕ)) × Takes-each s ws t fits
+
+-- some words make t out of a text that says nothing
+pub record Read (t : Text) : Type 0 where
+  pub start : Text
+  pub at-start : start .section ≡ Start
+  pub no-places : vec-items (start .places) ≡ []
+  pub no-rows : vec-items (start .rows) ≡ []
+  pub words : By-words start t true

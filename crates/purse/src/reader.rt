@@ -6,7 +6,7 @@ ghost use Rattle.std.specs.Reads.{value};
 ghost use Rattle.std.specs.Results.{Cases};
 ghost use Rattle.std.specs.Vec.{made};
 ghost use Rattle.program.specs.Refusal.{number-of};
-ghost use Rattle.purse.specs.Words.{Number, Takes};
+ghost use Rattle.purse.specs.Words.{Number, Takes, By-words, Read};
 use program::Refusal;
 use std::alloc::AllocError;
 use std::alloc::Global;
@@ -71,13 +71,19 @@ impl Text {
     }
 
     // The words of one line, up to a comment. False where one doesn't fit.
-    fn take_line(&mut self, line: &str) -> Result<bool, AllocError> {
+    fn take_line(&mut self, line: &str) -> Result<bool, AllocError>
+        ensures { λ r. ⌜ made r (λ fits. By-words (now (self .entry)) (now (self .exit)) fits) ⌝ }
+    {
         let words = match line.split_once('#') {
             Some((before, _)) => before,
             None => line,
         };
         for word in words.split([' ', '\t', '\r']) {
-            if !word.is_empty() && !self.take_word(word)? {
+            if word.is_empty() {
+                continue;
+            }
+            let fits = self.take_word(word)?;
+            if !fits {
                 return Ok(false);
             }
         }
@@ -87,7 +93,7 @@ impl Text {
 
 // What the bytes say, or the first line that can't be read. Bytes that aren't UTF-8 become a character that no word has.
 pub(crate) fn read(heap: Global, bytes: &[u8]) -> Result<Result<Text, Refusal>, AllocError>
-    ensures { λ r. ⌜ made r (λ text. Cases text (λ _. Unit {0}) (λ refusal. number-of refusal ≡ 5)) ⌝ }
+    ensures { λ r. ⌜ made r (λ text. Cases text Read (λ refusal. number-of refusal ≡ 5)) ⌝ }
 {
     let whole = String::from_utf8_lossy(heap, bytes)?;
     let mut text = Text {
@@ -96,7 +102,8 @@ pub(crate) fn read(heap: Global, bytes: &[u8]) -> Result<Result<Text, Refusal>, 
         section: Section::Start,
     };
     for (line, words) in whole.as_str().lines().enumerate() {
-        if !text.take_line(words)? {
+        let fits = text.take_line(words)?;
+        if !fits {
             return Ok(Err(Refusal::Unreadable { line }));
         }
     }
