@@ -33,6 +33,7 @@ by-kind k r₀ r₁ r₂ r₃ r₄ r₅ r₆ r₇ r₈ =
 unfoldable pub decoded : (k a b c : ℕ) → Row
 decoded k a b c = by-kind k (Constant a) (Place a) (Add a b) (Multiply a b) (Less a b) (Store a b) (Sequence a b) (Choice a b c) (Loop a b c)
 
+-- the row of number i
 abbrev pub row-in : List ℕ → ℕ → Row
 row-in xs i = decoded (kind xs i) (first xs i) (second xs i) (third xs i)
 
@@ -60,7 +61,7 @@ own-place (Sequence first second) = None
 own-place (Choice condition then otherwise) = None
 own-place (Loop limit count body) = None
 
--- a list of at most three rows
+-- the rows that the code lists as a row's, at most three
 abbrev pub named-rows : Named → List ℕ
 named-rows Nothing = []
 named-rows (One a) = a ∷ []

@@ -1,6 +1,6 @@
 // The limits of programs, each with its name.
 
-// A row is so many numbers: its kind, and three more of which its kind says what they are.
+// A row is so many numbers: its kind, and three more, whose meaning the kind says.
 pub const ROW_LENGTH: usize = 4;
 
 // The kinds of rows are 0 to 8.
