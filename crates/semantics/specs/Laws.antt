@@ -1,9 +1,12 @@
 -- What holds of every program by the definitions alone: statements, each on the contract of a function of src/lib.rt.
-use mathlib.Core.Bool.{true}
+use mathlib.Core.Bool.{true, cond}
 use mathlib.Core.Path.{_≡_}
-use Prim.Native.Nat.{ℕ, _<_, _≤_}
+use Prim.Native.Nat.{ℕ, _+_, _<_, _≤_}
+use lib.Dec.{leb}
 use Rattle.std.specs.Orderings.{Decides}
-use Rattle.semantics.specs.Program.{Program, fits, names, Within}
+use Rattle.std.specs.shelf.Lists.{All}
+use Rattle.semantics.specs.Program.{Program, if-not-nought, fits, names, Within}
+use Rattle.semantics.specs.Price.{at-most, runnable-parts}
 
 -- a program fits so many places exactly if each place that it names is one of them
 abbrev pub Fits-what-it-names : Type 0
@@ -20,3 +23,15 @@ Fits-within = (n : ℕ) (p q : Program) → Within q p → fits n p ≡ true →
 -- a program names what the programs in it name
 abbrev pub Names-within : Type 0
 Names-within = (i : ℕ) (p q : Program) → Within q p → names i q ≡ true → names i p ≡ true
+
+-- a program costs something
+abbrev pub Price-above-nothing : Type 0
+Price-above-nothing = (p : Program) → 1 ≤ at-most p
+
+-- and more than each part that it may run
+abbrev pub Price-above-parts : Type 0
+Price-above-parts = (p : Program) → All (λ q. at-most q < at-most p) (runnable-parts p)
+
+-- of a choice, its price counts the second arm where that costs at least as much as the first, else the first
+abbrev pub Price-of-choice : Type 0
+Price-of-choice = (p q r : Program) → at-most (if-not-nought p q r) ≡ 1 + (at-most p + cond (leb (at-most q) (at-most r)) (at-most r) (at-most q))
