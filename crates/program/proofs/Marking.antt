@@ -16,7 +16,7 @@ use Rattle.program.specs.Row.{named, row-in}
 use Rattle.program.specs.Rows.{row-count, Valid}
 use Rattle.program.specs.Reach.{Reaches, itself, through, reached, marked}
 use Rattle.program.specs.declared.row.Row.{Row}
-use Rattle.program.proofs.Reaching.{member-earlier, reached-decides, last-row}
+use Rattle.program.proofs.Reaching.{member-earlier, reaches-on, reached-decides, last-row}
 use Rattle.program.proofs.Shape.{Shape, shape-of}
 
 -- a table with some rows marked: as long, with what was marked, what is marked now, and nothing else
@@ -42,11 +42,6 @@ marked-only : (t : List Bool) (js : List ℕ) (k : ℕ) → getD (marked t js) k
 marked-only t [] k h = inl h
 marked-only t (j ∷ js) k h =
     ⊎-elim (λ was. ⊎-elim (λ e. inr (List·Memᴰ·head e)) (λ ne. inl (sym (getD-set-other t j k true false ne) ∙ was)) (cases-eq k j)) (λ m. inr (List·Memᴰ·tail m)) (marked-only (set t j true) js k h)
-
--- what a reached row names is reached
-reaches-on : (xs : List ℕ) (j k : ℕ) {i : ℕ} → Reaches xs j i → List·Memᴰ k (named (row-in xs j)) → Reaches xs k i
-reaches-on xs j k (itself e) m = through k (subst (λ (x : ℕ). List·Memᴰ k (named (row-in xs x))) e m) (itself refl)
-reaches-on xs j k (through l ml r) m = through l ml (reaches-on xs j k r m)
 
 above : (i j : ℕ) → i ≤ j → (j ≡ i → ⊥) → i + 1 ≤ j
 above i j h ne = ⊎-elim (λ l. omega arith) (λ l. absurd (ne (omega arith))) (cases-lt i j)

@@ -18,7 +18,7 @@ use Rattle.program.proofs.Earlier.{names-earlier}
 use Rattle.program.proofs.Shape.{Shape, shape-of}
 
 -- a row's program looks at the rows that it names and at no others
-program-of-same : (m n : ℕ → Program) (r : Row) → All (λ j. m j ≡ n j) (named r) → program-of m r ≡ program-of n r
+pub program-of-same : (m n : ℕ → Program) (r : Row) → All (λ j. m j ≡ n j) (named r) → program-of m r ≡ program-of n r
 program-of-same m n (Constant value) h = refl
 program-of-same m n (Place i) h = refl
 program-of-same m n (Add left right) h = λ t. added (h .0 t) (h .1 .0 t)

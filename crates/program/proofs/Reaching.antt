@@ -22,7 +22,7 @@ use Rattle.program.specs.Reach.{Reaches, itself, through, any, reaches-by, rea
 use Rattle.program.specs.declared.row.Row.{Row}
 use Rattle.program.specs.declared.row.Row.the-variants.{Constant, Place, Add, Multiply, Less, Store, Sequence, Choice, Loop}
 use Rattle.program.proofs.Earlier.{names-earlier}
-use Rattle.program.proofs.Programs.{at-row-is, program-in-is}
+use Rattle.program.proofs.Programs.{program-of-same, at-row-is, program-in-is}
 use Rattle.program.proofs.Shape.{Shape, shape-of}
 
 -- one that passes, as a member
@@ -91,6 +91,11 @@ names-of p m (Choice condition then otherwise) h =
     ⊎-elim (λ e. inr (condition, List·Memᴰ·head refl, e)) (λ e. let (j, mj, t) = by-two p m then otherwise e in inr (j, List·Memᴰ·tail mj, t))
     (or-cases (names p (m condition)) (names p (m then) || names p (m otherwise)) h)
 names-of p m (Loop limit count body) h = inr (by-two p m count body h)
+
+-- what a reached row names is reached
+pub reaches-on : (xs : List ℕ) (j k : ℕ) {i : ℕ} → Reaches xs j i → List·Memᴰ k (named (row-in xs j)) → Reaches xs k i
+reaches-on xs j k (itself e) m = through k (subst (λ (x : ℕ). List·Memᴰ k (named (row-in xs x))) e m) (itself refl)
+reaches-on xs j k (through l ml r) m = through l ml (reaches-on xs j k r m)
 
 -- the facts below hold of the first n rows, which are right
 module _ (xs : List ℕ) (n : ℕ) (ok : rows-ok xs n ≡ true) where
@@ -163,6 +168,18 @@ module _ (xs : List ℕ) (n : ℕ) (ok : rows-ok xs n ≡ true) where
     there-if m (own-place (row-in xs i)) (λ p e. fits-below m p (at-row xs i) f (own-named p i i l (itself refl) e)),
   )
 
+-- rows that agree wherever a row reaches stand for the same program there
+same-where-reached : (xs ys : List ℕ) (n top : ℕ) → rows-ok xs n ≡ true → rows-ok ys n ≡ true → ((k : ℕ) → Reaches xs k top → row-in ys k ≡ row-in xs k) →
+    (d i : ℕ) → i < d → i < n → Reaches xs i top → at-row ys i ≡ at-row xs i
+same-where-reached xs ys n top okx oky same zero i h l r = absurd (omega arith)
+same-where-reached xs ys n top okx oky same (suc d) i h l r =
+    at-row-is ys n i oky l ∙ ap (program-of (at-row ys)) (same i r)
+    ∙ program-of-same (at-row ys) (at-row xs) (row-in xs i)
+    (all-from-members (λ j. at-row ys j ≡ at-row xs j) (named (row-in xs i)) (λ j m.
+    let e : j < i = member-earlier xs n okx i j l m in
+    same-where-reached xs ys n top okx oky same d j (omega arith) (omega arith) (reaches-on xs i j r m)))
+    ∙ sym (at-row-is xs n i okx l)
+
 -- of a whole program: the last row
 module _ (xs : List ℕ) (v : Valid xs) where
   pub last-row : row-count xs - 1 < row-count xs
@@ -196,3 +213,10 @@ read-fitting xs n i r v l f known =
       parts = subst (λ (x : Row). All (λ j. fits n (at-row xs j) ≡ true) (named x)) (sym (known .row)) (parts .0);
       there = subst (There n) (sym (known .row)) (parts .1);
     }
+
+-- programs of as many rows that agree at those that the last one reaches are the same
+pub only-reached-rows : (xs ys : List ℕ) → Valid xs → Valid ys → row-count ys ≡ row-count xs → ((k : ℕ) → Reaches xs k (row-count xs - 1) → row-in ys k ≡ row-in xs k) → program-in ys ≡ program-in xs
+only-reached-rows xs ys v w e same =
+    program-in-is ys w ∙ ap (λ n. at-row ys (n - 1)) e
+    ∙ same-where-reached xs ys (row-count xs) (row-count xs - 1) (v .order) (subst (λ (n : ℕ). rows-ok ys n ≡ true) e (w .order)) same (row-count xs) (row-count xs - 1) (last-row xs v) (last-row xs v) (itself refl)
+    ∙ sym (program-in-is xs v)

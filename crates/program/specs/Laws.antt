@@ -51,6 +51,10 @@ Reach-is-membership =
 abbrev pub Reached-is-reach : Type 0
 Reached-is-reach = (xs : List ℕ) (k : ℕ) → Valid xs → Decides (reached xs k) (Reaches xs k (row-count xs - 1))
 
+-- rows that the last row doesn't reach, and numbers that a row doesn't need, are of no matter
+abbrev pub Only-reached-rows : Type 0
+Only-reached-rows = (xs ys : List ℕ) → Valid xs → Valid ys → row-count ys ≡ row-count xs → ((k : ℕ) → Reaches xs k (row-count xs - 1) → row-in ys k ≡ row-in xs k) → program-in ys ≡ program-in xs
+
 -- the program names a place exactly if a reached row names it by itself
 abbrev pub Names-what-is-reached : Type 0
 Names-what-is-reached =

@@ -1,5 +1,5 @@
 // The laws of programs in rows: each function carries one, so that its proof is owed.
-ghost use Rattle.program.specs.Laws.{Rows-by-fours, Depth-does-not-matter, Rows-stand-for-programs, Reach-is-membership, Reached-is-reach, Names-what-is-reached, Fits-what-is-reached, Fits-row-by-row, Valid-if-unrefused, Answered-by-number, Unshaped-row, Lowest-row, Lowest-place};
+ghost use Rattle.program.specs.Laws.{Rows-by-fours, Depth-does-not-matter, Rows-stand-for-programs, Reach-is-membership, Reached-is-reach, Only-reached-rows, Names-what-is-reached, Fits-what-is-reached, Fits-row-by-row, Valid-if-unrefused, Answered-by-number, Unshaped-row, Lowest-row, Lowest-place};
 
 // Numbers are as many rows as there are fours among them.
 pub fn rows_by_fours() -> u8
@@ -32,6 +32,14 @@ pub fn reach_is_membership() -> u8
 // `reached`, by which the refusals and the table speak, tells what the last row reaches.
 pub fn reached_is_reach() -> u8
     ensures { λ _. ⌜ Reached-is-reach ⌝ }
+{
+    0
+}
+
+// Rows that the last row doesn't reach, and numbers that a row doesn't need, are of no matter: two programs of as many rows that read the same
+// wherever the last row reaches are the same program.
+pub fn only_reached_rows() -> u8
+    ensures { λ _. ⌜ Only-reached-rows ⌝ }
 {
     0
 }
