@@ -1,30 +1,25 @@
--- What is answered to a text, and the words of it, byte for byte. Assumes nothing.
+-- What is answered, and the words of it, byte for byte. Assumes nothing.
 use mathlib.Core.List.{List, _++_}
 use Prim.Native.Nat.{ℕ, _+_}
 use lib.Chars.{codes}
-use Rattle.std.specs.Of.Vec.{vec-items, vec-len}
 use Rattle.std.specs.Written.{decimal}
-use Rattle.std.specs.declared.option.Option.{Option}
-use Rattle.std.specs.declared.option.Option.the-variants.{Some, None}
 use Rattle.std.specs.declared.result.Result.{Result}
 use Rattle.std.specs.declared.result.Result.the-variants.{Ok, Err}
 use Rattle.program.specs.Refusal.{number-of, place-of}
-use Rattle.program.specs.Validation.{program-refusal}
 use Rattle.program.specs.declared.refusal.Refusal.{Refusal}
 use Rattle.program.specs.declared.refusal.Refusal.the-variants.{CutShort, NoRows, TooManyRows, UnknownKind, NotEarlier, NoSuchPlace, TooManyPlaces, TooDear, RoomLength, Unreadable}
+use Rattle.pricing.specs.Refusals.{quoted}
 use Rattle.purse.specs.declared.answer.Answer.{Answer}
-use Rattle.purse.specs.declared.answer.Answer.the-variants.{Taken, TurnedAway}
-use Rattle.purse.specs.declared.reader.Text.{Text}
+use Rattle.purse.specs.declared.answer.Answer.the-variants.{Costs, TurnedAway}
 
--- a program that gets no refusal is taken
-abbrev pub answer-by : Option Refusal → Answer
-answer-by None = Taken
-answer-by (Some r) = TurnedAway r
+-- the answer by what is quoted
+abbrev pub answer-by : Result ℕ Refusal → Answer
+answer-by (Ok price) = Costs price
+answer-by (Err r) = TurnedAway r
 
--- a text that is read is answered by its rows and the count of its places; one that isn't, by its refusal
-abbrev pub answer-to : Result Text Refusal → Answer
-answer-to (Ok t) = answer-by (program-refusal (vec-items (t .rows)) (vec-len (t .places)))
-answer-to (Err r) = TurnedAway r
+-- the answer to `price`, for rows and a count of places
+abbrev pub answer-to : (rows : List ℕ) → (places : ℕ) → Answer
+answer-to xs n = answer-by (quoted xs n)
 
 -- why, in one line with the actual numbers
 abbrev pub reason : Refusal → List ℕ
@@ -35,9 +30,9 @@ reason (UnknownKind row kind limit) = codes "row " ++ (decimal row ++ (codes " i
 reason (NotEarlier row named) = codes "row " ++ (decimal row ++ (codes " names row " ++ (decimal named ++ codes ", which is not earlier")))
 reason (NoSuchPlace row place count) = codes "row " ++ (decimal row ++ (codes " names place " ++ (decimal place ++ (codes ", and the count of places is " ++ decimal count))))
 reason (TooManyPlaces count limit) = decimal count ++ (codes " places, and a program works on " ++ (decimal limit ++ codes " at most"))
-reason (TooDear row limit) = codes "the price is above " ++ (decimal limit ++ (codes " from row " ++ (decimal row ++ codes " on")))
+reason (TooDear row limit) = codes "the price is above " ++ (decimal limit ++ (codes ", and row " ++ (decimal row ++ codes " is the first to pass it")))
 reason (RoomLength length places) = codes "the room is " ++ (decimal length ++ (codes " long, and the count of places is " ++ decimal places))
-reason (Unreadable line) = codes "line " ++ (decimal (line + 1) ++ codes " has a word that is not places, rows or a number of theirs below 4294967296")
+reason (Unreadable line) = codes "line " ++ (decimal (line + 1) ++ codes " has a word that is not places, rows, price or a number of places or rows below 4294967296")
 
 -- a refusal with its number and its place
 abbrev pub turned-away : (number place : ℕ) → Refusal → List ℕ
@@ -45,5 +40,5 @@ turned-away number place r = codes "turned away " ++ (decimal number ++ (codes "
 
 -- the line that is printed
 abbrev pub shown-answer : Answer → List ℕ
-shown-answer Taken = codes "taken"
+shown-answer (Costs price) = codes "costs " ++ decimal price
 shown-answer (TurnedAway r) = turned-away (number-of r) (place-of r) r

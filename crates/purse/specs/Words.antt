@@ -5,8 +5,9 @@ use mathlib.Core.Path.{_≡_}
 use Prim.Native.Nat.{ℕ, _^_, _<_}
 use lib.Chars.{codes}
 use lib.ListN.{length}
-use Rattle.std.specs.Of.Vec.{vec-items}
+use Rattle.std.specs.Of.Vec.{vec-items, vec-len}
 use Rattle.std.specs.Reads.{Digits, value}
+use Rattle.purse.specs.Answers.{answer-to}
 use Rattle.purse.specs.declared.reader.Section.the-variants.{Start, Places, Rows}
 use Rattle.purse.specs.declared.reader.Text.{Text}
 
@@ -14,15 +15,17 @@ use Rattle.purse.specs.declared.reader.Text.{Text}
 abbrev pub Number : List ℕ → Type 0
 Number bs = Digits 10 bs × (0 < length bs) × (value 10 bs < 2 ^ 32)
 
--- a word turns the text s into t, and whether it fits: the name of a statement, which starts its numbers anew; a number of the statement
--- that stands open; or, with nothing changed, a number where none stands open, or any other word
+-- a word turns the text s into t, and whether it fits: the name of a statement that starts its numbers anew; `price`, which is answered
+-- for the rows and the places so far, and takes no number; a number of the statement that stands open; or, with nothing changed, a number where none
+-- stands open, or any other word
 pub data Takes (bs : List ℕ) (s t : Text) : Bool → Type 0 where
-  starts-places : bs ≡ codes "places" → t .section ≡ Places → vec-items (t .places) ≡ [] → vec-items (t .rows) ≡ vec-items (s .rows) → Takes bs s t true
-  starts-rows : bs ≡ codes "rows" → t .section ≡ Rows → vec-items (t .rows) ≡ [] → vec-items (t .places) ≡ vec-items (s .places) → Takes bs s t true
-  adds-place : Number bs → s .section ≡ Places → t .section ≡ Places → vec-items (t .places) ≡ vec-items (s .places) ++ value 10 bs ∷ [] → vec-items (t .rows) ≡ vec-items (s .rows) → Takes bs s t true
-  adds-row : Number bs → s .section ≡ Rows → t .section ≡ Rows → vec-items (t .rows) ≡ vec-items (s .rows) ++ value 10 bs ∷ [] → vec-items (t .places) ≡ vec-items (s .places) → Takes bs s t true
+  starts-places : bs ≡ codes "places" → t .section ≡ Places → vec-items (t .places) ≡ [] → vec-items (t .rows) ≡ vec-items (s .rows) → vec-items (t .answers) ≡ vec-items (s .answers) → Takes bs s t true
+  starts-rows : bs ≡ codes "rows" → t .section ≡ Rows → vec-items (t .rows) ≡ [] → vec-items (t .places) ≡ vec-items (s .places) → vec-items (t .answers) ≡ vec-items (s .answers) → Takes bs s t true
+  asks-price : bs ≡ codes "price" → t .section ≡ Start → vec-items (t .answers) ≡ vec-items (s .answers) ++ answer-to (vec-items (s .rows)) (vec-len (s .places)) ∷ [] → vec-items (t .places) ≡ vec-items (s .places) → vec-items (t .rows) ≡ vec-items (s .rows) → Takes bs s t true
+  adds-place : Number bs → s .section ≡ Places → t .section ≡ Places → vec-items (t .places) ≡ vec-items (s .places) ++ value 10 bs ∷ [] → vec-items (t .rows) ≡ vec-items (s .rows) → vec-items (t .answers) ≡ vec-items (s .answers) → Takes bs s t true
+  adds-row : Number bs → s .section ≡ Rows → t .section ≡ Rows → vec-items (t .rows) ≡ vec-items (s .rows) ++ value 10 bs ∷ [] → vec-items (t .places) ≡ vec-items (s .places) → vec-items (t .answers) ≡ vec-items (s .answers) → Takes bs s t true
   stands-alone : Number bs → s .section ≡ Start → t ≡ s → Takes bs s t false
-  is-no-word : (bs ≡ codes "places" → ⊥) → (bs ≡ codes "rows" → ⊥) → (Number bs → ⊥) → t ≡ s → Takes bs s t false
+  is-no-word : (bs ≡ codes "places" → ⊥) → (bs ≡ codes "rows" → ⊥) → (bs ≡ codes "price" → ⊥) → (Number bs → ⊥) → t ≡ s → Takes bs s t false
 
 -- words that take the text s to t one after another; all but the last fit, and whether the last does
 pub data Takes-each (s : Text) : List (List ℕ) → Text → Bool → Type 0 where
@@ -39,4 +42,5 @@ pub record Read (t : Text) : Type 0 where
   pub at-start : start .section ≡ Start
   pub no-places : vec-items (start .places) ≡ []
   pub no-rows : vec-items (start .rows) ≡ []
+  pub no-answers : vec-items (start .answers) ≡ []
   pub words : By-words start t true

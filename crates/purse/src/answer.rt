@@ -2,27 +2,23 @@
 ghost use mathlib.Core.Path.{_≡_};
 ghost use Rattle.std.specs.declared.option.Option.the-variants.{Some};
 ghost use Rattle.purse.specs.Answers.{answer-to, reason, shown-answer};
-use crate::reader::Text;
+use pricing::quote;
 use program::Refusal;
-use program::validate;
 use std::fmt;
 
-// A program is taken, or turned away.
-#[derive(Drop)]
+// A program's price, or why something is turned away.
+#[derive(Clone, Copy, Drop)]
 pub enum Answer {
-    Taken,
+    Costs(u64),
     TurnedAway(Refusal),
 }
 
-// The answer to a text that was read, or that couldn't be.
-pub(crate) fn answer_of(text: Result<Text, Refusal>) -> Answer
-    ensures { λ r. ⌜ r ≡ answer-to text ⌝ }
+// The answer to `price`, for the rows and a count of places.
+pub(crate) fn answer_price(rows: &[u32], places: usize) -> Answer
+    ensures { λ r. ⌜ r ≡ answer-to (now (rows .entry)) places ⌝ }
 {
-    match text {
-        Ok(text) => match validate(text.rows.as_slice(), text.places.len()) {
-            Some(refusal) => Answer::TurnedAway(refusal),
-            None => Answer::Taken,
-        },
+    match quote(rows, places) {
+        Ok(price) => Answer::Costs(price),
         Err(refusal) => Answer::TurnedAway(refusal),
     }
 }
@@ -63,7 +59,7 @@ impl fmt::Display for Reason as ReasonDisplay {
             ),
             Refusal::TooDear { row, limit } => write!(
                 f,
-                "the price is above {limit} from row {row} on"
+                "the price is above {limit}, and row {row} is the first to pass it"
             ),
             Refusal::RoomLength { length, places } => write!(
                 f,
@@ -74,7 +70,7 @@ impl fmt::Display for Reason as ReasonDisplay {
                 let counted = line as u128 + 1;
                 write!(
                     f,
-                    "line {counted} has a word that is not places, rows or a number of theirs below 4294967296"
+                    "line {counted} has a word that is not places, rows, price or a number of places or rows below 4294967296"
                 )
             }
         }
@@ -86,7 +82,7 @@ pub impl fmt::Display for Answer as AnswerDisplay {
 
     fn fmt<W: fmt::Write>(&self, f: &mut fmt::Formatter<W>) -> fmt::Result {
         match self {
-            Answer::Taken => write!(f, "taken"),
+            Answer::Costs(price) => write!(f, "costs {price}"),
             Answer::TurnedAway(refusal) => {
                 let number = refusal.number();
                 let place = refusal.place();

@@ -1,11 +1,11 @@
-// The command: reads places and rows from standard input and says whether the program is taken.
+// The command: reads a text from standard input and prints the price of each program that it asks for.
 mod answer;
 mod reader;
 #[cfg(test)]
 mod tests;
 
+use answer::Answer;
 use answer::AnswerDisplay;
-use answer::answer_of;
 use reader::read;
 use std::error::AnyError;
 use std::io::Read;
@@ -14,8 +14,14 @@ fn run(rt: &LibcRuntime) -> Result<(), AnyError> {
     let heap = rt.alloc();
     let mut bytes = Vec::new(heap);
     rt.stdin().read_to_end(&mut bytes)?;
-    let answer = answer_of(read(heap, bytes.as_slice())?);
-    rt.println(answer)?;
+    match read(heap, bytes.as_slice())? {
+        Ok(text) => {
+            for answer in text.answers.iter() {
+                rt.println(*answer)?;
+            }
+        }
+        Err(refusal) => rt.println(Answer::TurnedAway(refusal))?,
+    }
     Ok(())
 }
 

@@ -1,4 +1,4 @@
-// Reads a text of two statements, `places` and `rows`, each with its numbers; `#` starts a comment that ends with the line.
+// Reads a text of the statements `places` and `rows`, each with its numbers, and `price`; `#` starts a comment that ends with the line.
 ghost use mathlib.Core.Path.{_≡_};
 ghost use Prim.Native.Nat.{_<_};
 ghost use Rattle.std.specs.Numbers.{Checked};
@@ -7,6 +7,8 @@ ghost use Rattle.std.specs.Results.{Cases};
 ghost use Rattle.std.specs.Vec.{made};
 ghost use Rattle.program.specs.Refusal.{number-of};
 ghost use Rattle.purse.specs.Words.{Number, Takes, By-words, Read};
+use crate::answer::Answer;
+use crate::answer::answer_price;
 use program::Refusal;
 use std::alloc::AllocError;
 use std::alloc::Global;
@@ -19,11 +21,12 @@ enum Section {
     Rows,
 }
 
-// What the text has said so far.
+// What the text has said so far, and the answers to it.
 #[derive(Drop)]
 pub(crate) struct Text {
-    pub(crate) places: Vec<u32>,
-    pub(crate) rows: Vec<u32>,
+    places: Vec<u32>,
+    rows: Vec<u32>,
+    pub(crate) answers: Vec<Answer>,
     section: Section,
 }
 
@@ -45,7 +48,7 @@ fn number(word: &str) -> Option<u32>
 }
 
 impl Text {
-    // One word more: the name of a statement, which starts its numbers anew, or a number. False where it is neither.
+    // One word more: the name of a statement, which starts its numbers anew or is answered, or a number. False where it is neither.
     fn take_word(&mut self, word: &str) -> Result<bool, AllocError>
         ensures { λ r. ⌜ made r (λ fits. Takes (now (word .entry)) (now (self .entry)) (now (self .exit)) fits) ⌝ }
     {
@@ -57,6 +60,12 @@ impl Text {
         if word == "rows" {
             self.section = Section::Rows;
             self.rows.clear();
+            return Ok(true);
+        }
+        if word == "price" {
+            self.section = Section::Start;
+            let answer = answer_price(self.rows.as_slice(), self.places.len());
+            self.answers.push(answer)?;
             return Ok(true);
         }
         let Some(number) = number(word) else {
@@ -99,6 +108,7 @@ pub(crate) fn read(heap: Global, bytes: &[u8]) -> Result<Result<Text, Refusal>, 
     let mut text = Text {
         places: Vec::new(heap),
         rows: Vec::new(heap),
+        answers: Vec::new(heap),
         section: Section::Start,
     };
     for (line, words) in whole.as_str().lines().enumerate() {

@@ -12,4 +12,4 @@ loop-line-again c =
     (by-more-words _ (c .loop-line .text) (c .take-line .last .self) (c .in-Continue-fits .fits) (c .loop-line .inv) (c .in-Continue-fits .ensures tt))
 
 pub returns : need.returns
-returns c = record { start = _; at-start = refl; no-places = c .new .ensures .items; no-rows = c .new-2 .ensures .items; words = c .loop-line .inv }
+returns c = record { start = _; at-start = refl; no-places = c .new .ensures .items; no-rows = c .new-2 .ensures .items; no-answers = c .new-3 .ensures .items; words = c .loop-line .inv }
