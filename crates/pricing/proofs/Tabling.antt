@@ -5,24 +5,24 @@ use mathlib.Core.Logic.{⊎-elim}
 use mathlib.Core.Path.{_≡_, sym, ap, subst, _∙_}
 use Prim.Native.Nat.{ℕ, _+_, _<_, _≤_}
 use lib.Dec.{ltb}
-use lib.ListN.{length, getD, set, replicate, getD-replicate}
+use lib.ListN.{length, getD, set, replicate}
 use lib.Seq.{getD-set-same, getD-set-other}
 use native.Mathlib.Omega.{arith}
 use Rattle.std.proofs.shelf.Elements.{all-weaker}
-use Rattle.std.proofs.shelf.Lists.{getD-past}
-use Rattle.std.proofs.shelf.Tests.{cond-both, cond-true, cond-false, lt-ltb, le-ltb, cases-eq, cases-lt}
+use Rattle.std.proofs.shelf.Tests.{cond-both, cond-true, cond-false, lt-ltb, le-ltb, cases-eq}
 use Rattle.std.proofs.shelf.Ways.{tells}
 use Rattle.semantics.specs.Price.{at-most}
 use Rattle.program.specs.Row.{named}
 use Rattle.program.specs.Rows.{at-row}
 use Rattle.program.specs.Reads.{Reads}
 use Rattle.program.specs.declared.row.Row.{Row}
+use Rattle.program.proofs.Tables.{blank}
 use Rattle.pricing.specs.Table.{cap, capped, price-of, Priced}
 use Rattle.pricing.proofs.Capping.{capped-row, price-of-row}
 
 -- before the pass
 pub none-priced : (xs : List ℕ) → Priced xs 0 (replicate 256 0)
-none-priced xs i = ⊎-elim (λ l. getD-replicate 256 i 0 0 l) (λ l. getD-past (replicate 256 0) i 0 l) (cases-lt i 256) ∙ sym (cond-false (ltb i 0) _ 0 (le-ltb i 0 (omega arith)))
+none-priced xs i = blank 256 0 i ∙ sym (cond-false (ltb i 0) _ 0 (le-ltb i 0 (omega arith)))
 
 -- no price in the table is above the cap
 pub below-cap : (xs : List ℕ) (n : ℕ) (t : List ℕ) → Priced xs n t → (j : ℕ) → getD t j 0 ≤ cap

@@ -8,4 +8,5 @@ pub mod Programs
 pub mod Reaching
 pub mod Refusing
 pub mod Shape
+pub mod Tables
 pub mod Validated

@@ -4,11 +4,10 @@ use mathlib.Core.List.{List, [], _∷_, List·Memᴰ, List·Memᴰ·head, List·
 use mathlib.Core.Logic.{_⊎_, inl, inr, ⊎-elim}
 use mathlib.Core.Path.{_≡_, refl, sym, ap, subst, _∙_}
 use Prim.Native.Nat.{ℕ, _+_, _-_, _<_, _≤_}
-use lib.ListN.{length, getD, set, replicate, length-set, getD-replicate}
+use lib.ListN.{length, getD, set, replicate, length-set}
 use lib.Seq.{getD-set-same, getD-set-other}
 use native.Mathlib.Omega.{arith}
 use Rattle.std.proofs.shelf.Elements.{all-weaker}
-use Rattle.std.proofs.shelf.Lists.{getD-past}
 use Rattle.std.proofs.shelf.Tests.{both-ways, cases-bool, cases-eq, cases-lt}
 use Rattle.std.specs.shelf.Lists.{All}
 use Rattle.semantics.proofs.Members.{all-member}
@@ -18,6 +17,7 @@ use Rattle.program.specs.Reach.{Reaches, itself, through, reached, marked}
 use Rattle.program.specs.declared.row.Row.{Row}
 use Rattle.program.proofs.Reaching.{member-earlier, reaches-on, reached-decides, last-row}
 use Rattle.program.proofs.Shape.{Shape, shape-of}
+use Rattle.program.proofs.Tables.{blank}
 
 -- a table with some rows marked: as long, with what was marked, what is marked now, and nothing else
 length-marked : (t : List Bool) (js : List ℕ) → length (marked t js) ≡ length t
@@ -54,9 +54,6 @@ pub record Passed (xs : List ℕ) (i : ℕ) (t : List Bool) : Type 0 where
   pub complete : (j k : ℕ) → i ≤ j → j < row-count xs → getD t j false ≡ true → List·Memᴰ k (named (row-in xs j)) → getD t k false ≡ true
 
 module _ (xs : List ℕ) (v : Valid xs) where
-  nothing-marked : (k : ℕ) → getD (replicate 256 false) k false ≡ false
-  nothing-marked k = ⊎-elim (λ l. getD-replicate 256 k false false l) (λ l. getD-past (replicate 256 false) k false l) (cases-lt k 256)
-
   -- before the pass
   pub none-passed : Passed xs (row-count xs) (set (replicate 256 false) (row-count xs - 1) true)
   none-passed =
@@ -65,7 +62,7 @@ module _ (xs : List ℕ) (v : Valid xs) where
         long = length-set (replicate 256 false) (row-count xs - 1) true;
         sound =
             λ k h.
-            ⊎-elim itself (λ ne. absurd (both-ways (getD (replicate 256 false) k false) (nothing-marked k) (sym (getD-set-other (replicate 256 false) (row-count xs - 1) k true false ne) ∙ h)))
+            ⊎-elim itself (λ ne. absurd (both-ways (getD (replicate 256 false) k false) (blank 256 false k) (sym (getD-set-other (replicate 256 false) (row-count xs - 1) k true false ne) ∙ h)))
             (cases-eq k (row-count xs - 1));
         top = getD-set-same (replicate 256 false) (row-count xs - 1) true false (omega arith);
         complete = λ j k a b h m. absurd (omega arith);
