@@ -1,6 +1,6 @@
 -- Two runs at once, from places that are related: both are the same payment, for the same number, and leave places that are related again. One
 -- predicate, one lemma for each way in which runs are put together, and one induction over programs. Assumes nothing.
-use Rattle.std.proofs.Common.{◌≡◌, ℕ, zero, suc, ◌+◌, ◌*◌, ◌%◌, ◌<◌, ◌≤◌, min, max, Bool, true, false, cond, ◌||◌, eqb, ltb, sym, refl, ap, ◌∙◌, subst, mul-le-mul_right, mod-lt, arith}
+use Rattle.std.proofs.Common.{◌≡◌, ℕ, zero, suc, ◌+◌, ◌*◌, ◌%◌, ◌<◌, ◌≤◌, min, max, Bool, true, false, cond, eqb, ltb, sym, refl, ap, ◌∙◌, subst, mul-le-mul_right, mod-lt, arith}
 use Rattle.std.proofs.lemmas.Bool.{or_left, or_right, eq-eqb, cond_both}
 use Rattle.semantics.specs.Program.{Program, Places, constant, place, added, times, less, set, after, if_not_nought, again, names}
 use Rattle.semantics.specs.Price.{at_most}

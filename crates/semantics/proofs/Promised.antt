@@ -1,12 +1,12 @@
 -- The promises, read off from one payment. Assumes nothing.
-use Rattle.std.proofs.Common.{◌≡◌, ℕ, ◌+◌, ◌-◌, ◌<◌, ◌≤◌, Bool, true, false, ◌⊎◌, sym, refl, ap, ◌∙◌, subst, inl, inr, ⊎_elim, arith}
+use Rattle.std.proofs.Common.{◌≡◌, ℕ, ◌+◌, ◌-◌, ◌<◌, ◌≤◌, true, false, ◌⊎◌, sym, refl, ap, ◌∙◌, subst, inl, inr, ⊎_elim, arith}
 use Rattle.std.proofs.lemmas.Bool.{both_ways, cases_lt}
 use Rattle.semantics.specs.Program.{Program, Places, after, names}
 use Rattle.semantics.specs.Price.{at_most}
-use Rattle.semantics.specs.Run.{word, Run, came, too_small, with_place, then_run, pay, run}
+use Rattle.semantics.specs.Run.{word, came, too_small, with_place, then_run, run}
 use Rattle.semantics.specs.Promise.{Payment}
 use Rattle.semantics.proofs.Paying.{Came, paid, short, pay_came, pay_small, put_other, put_both}
-use Rattle.semantics.proofs.Alike.{Respects, alike}
+use Rattle.semantics.proofs.Alike.{alike}
 
 -- from the same places: a run is one payment
 pub one_payment : (p : Program) (s : Places) → Payment p s

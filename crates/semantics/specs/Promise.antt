@@ -2,7 +2,7 @@
 use Rattle.std.specs.Prelude.{◌≡◌, ℕ, ◌+◌, ◌<◌, ◌≤◌, true, false, ◌⊎◌}
 use Rattle.semantics.specs.Program.{Program, Places, after, names}
 use Rattle.semantics.specs.Price.{at_most}
-use Rattle.semantics.specs.Run.{word, Run, came, too_small, pay, run}
+use Rattle.semantics.specs.Run.{word, came, too_small, pay, run}
 
 -- a run is one payment: whatever is in the purse, it costs the same number of steps, between 1 and the price, for the same number below
 -- 2^32 and the same places, or the purse is too small. The other promises follow from this one

@@ -1,4 +1,6 @@
 // The laws of programs: each function carries one, so that its proof is owed. The definitions stand in specs/.
+#![tactic(auto)]
+
 pub mod promise;
 
 ghost use Rattle.semantics.specs.Laws.{FitsWhatItNames, FitsMore, FitsWithin, NamesWithin, PriceAboveNothing, PriceAboveParts, PriceOfChoice};
