@@ -1,4 +1,6 @@
 // Prices: what a program costs at most, said from its text, or why it isn't taken.
+#![tactic(auto)]
+
 mod done;
 pub mod laws;
 pub mod limits;

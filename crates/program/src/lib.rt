@@ -1,4 +1,6 @@
 // Programs in rows of numbers: what a row says, which numbers are programs, and why the others are turned away.
+#![tactic(auto)]
+
 mod decoder;
 mod fitting;
 pub mod laws;

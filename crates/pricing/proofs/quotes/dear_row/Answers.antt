@@ -5,15 +5,15 @@ use Rattle.pricing.proofs.Dearness.{shown_dear}
 use Rattle.pricing.proofs.Lowest.{lowest_is}
 use Rattle.pricing.proofs.quotes.dear_row.Goals as goal
 
-pub returns-then-is-dear : goal.returns-then-is-dear
-returns-then-is-dear c =
+pub returns-then-is_dear : goal.returns-then-is_dear
+returns-then-is_dear c =
     let xs = c.args.program.numbers.now in
     let row = c.loop-row.row in
     sym (lowest_is (is_dear xs) (row_count xs - 1) row (omega arith) c.loop-row.invariant
-    (λ _. sym (shown_dear xs (row_count xs) c.args.prices.now c.requires row (omega arith) _ (c.reached-rows-reached.ensures row)) ∙ sym c.if-is-dear.ensures))
+    (λ _. sym (shown_dear xs (row_count xs) c.args.prices.now c.requires row (omega arith) _ (c.reached_rows-reached.ensures row)) ∙ sym c.if-is_dear.ensures))
 
 pub returns : goal.returns
 returns c =
     let xs = c.args.program.numbers.now in
-    let end : row_count xs - 1 ≡ c.last-row-last.result = omega arith in
-    sym (lowest_is (is_dear xs) (row_count xs - 1) c.last-row-last.result (omega arith) (λ j l. c.loop-row.invariant j (omega arith)) (λ l. absurd (omega arith)))
+    let end : row_count xs - 1 ≡ c.last_row-last.result = omega arith in
+    sym (lowest_is (is_dear xs) (row_count xs - 1) c.last_row-last.result (omega arith) (λ j l. c.loop-row.invariant j (omega arith)) (λ l. absurd (omega arith)))

@@ -8,8 +8,8 @@ loop-line-init c = by_no_words _
 
 pub loop-line-preserved : goal.loop-line-preserved
 loop-line-preserved c =
-    subst (ByWords _ c.take-line.new.self) c.if-not-fits.false
-    (by_more_words _ c.loop-line.text c.take-line.new.self c.in-ok-fits.fits c.loop-line.invariant c.in-ok-fits.ensures)
+    subst (ByWords _ c.take_line.new.self) c.if-not-fits.false
+    (by_more_words _ c.loop-line.text c.take_line.new.self c.in_ok-fits.fits c.loop-line.invariant c.in_ok-fits.ensures)
 
 pub returns : goal.returns
 returns c = record { start = _; at_start = refl; no_places = c.new.ensures.items; no_rows = c.new-2.ensures.items; no_answers = c.new-3.ensures.items; words = c.loop-line.invariant }

@@ -35,5 +35,5 @@ pub returns-in-7 : goal.returns-in-7
 unfolding decoded
 returns-in-7 c = row_of_kind c.args.numbers.now c.args.row 7 c.in-7.is
 
-pub returns-in-default : goal.returns-in-default
-returns-in-default c = decoded_last _ _ _ _ (omega arith)
+pub returns-in_default : goal.returns-in_default
+returns-in_default c = decoded_last _ _ _ _ (omega arith)

@@ -5,8 +5,8 @@ use Rattle.program.proofs.Shape.{Shape, shape_of}
 use Rattle.program.proofs.Validated.{valid_of}
 use Rattle.program.proofs.valid.ValidProgram.last_row.Goals as goal
 
-pub overflow-sub-result : goal.overflow-sub-result
-overflow-sub-result c = let s : Shape c.args.self.numbers.now = shape_of _ c.args.self.shape in omega arith
+pub overflow_sub-result : goal.overflow_sub-result
+overflow_sub-result c = let s : Shape c.args.self.numbers.now = shape_of _ c.args.self.shape in omega arith
 
 pub returns : goal.returns
 returns c =
@@ -15,5 +15,5 @@ returns c =
     record {
       number = omega arith;
       few = omega arith;
-      program = program_in_is xs (valid_of c.args.self) ∙ ap (λ n. at_row xs (n - 1)) (sym c.row-count.ensures);
+      program = program_in_is xs (valid_of c.args.self) ∙ ap (λ n. at_row xs (n - 1)) (sym c.row_count.ensures);
     }

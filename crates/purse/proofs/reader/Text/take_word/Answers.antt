@@ -13,20 +13,20 @@ returns-then-eq-2 c = starts_rows (c.if-eq-2.ensures.0 refl) refl c.clear-then-e
 pub returns-then-eq-3 : goal.returns-then-eq-3
 returns-then-eq-3 c =
     asks_price (c.if-eq-3.ensures.0 refl) refl
-    (c.in-ok-push.ensures.items ∙ ap (λ a. vec_items c.args.self.now.answers ++ a ∷ []) (c.answer-price-answer.ensures ∙ (λ t. answer_to (c.as-slice.ensures.value t) (c.len.ensures t)))) refl refl
+    (c.in_ok-push.ensures.items ∙ ap (λ a. vec_items c.args.self.now.answers ++ a ∷ []) (c.answer_price-answer.ensures ∙ (λ t. answer_to (c.as_slice.ensures.value t) (c.len.ensures t)))) refl refl
 
-pub returns-in-default : goal.returns-in-default
-returns-in-default c = is_no_word (λ e. false≢true (c.if-eq.ensures.1 e)) (λ e. false≢true (c.if-eq-2.ensures.1 e)) (λ e. false≢true (c.if-eq-3.ensures.1 e)) c.in-default.ensures refl
+pub returns-in_default : goal.returns-in_default
+returns-in_default c = is_no_word (λ e. false≢true (c.if-eq.ensures.1 e)) (λ e. false≢true (c.if-eq-2.ensures.1 e)) (λ e. false≢true (c.if-eq-3.ensures.1 e)) c.in_default.ensures refl
 
 pub returns-in-Start : goal.returns-in-Start
 returns-in-Start c = stands_alone c.in-Some.ensures.0 c.in-Start.is refl
 
-pub returns-in-ok-push-2 : goal.returns-in-ok-push-2
-returns-in-ok-push-2 c =
+pub returns-in_ok-push-2 : goal.returns-in_ok-push-2
+returns-in_ok-push-2 c =
     adds_place c.in-Some.ensures.0 c.in-Places.is c.in-Places.is
-    (c.in-ok-push-2.ensures.items ∙ ap (λ n. vec_items c.args.self.now.places ++ n ∷ []) c.in-Some.ensures.1) refl refl
+    (c.in_ok-push-2.ensures.items ∙ ap (λ n. vec_items c.args.self.now.places ++ n ∷ []) c.in-Some.ensures.1) refl refl
 
-pub returns-in-ok-push-3 : goal.returns-in-ok-push-3
-returns-in-ok-push-3 c =
+pub returns-in_ok-push-3 : goal.returns-in_ok-push-3
+returns-in_ok-push-3 c =
     adds_row c.in-Some.ensures.0 c.in-Rows.is c.in-Rows.is
-    (c.in-ok-push-3.ensures.items ∙ ap (λ n. vec_items c.args.self.now.rows ++ n ∷ []) c.in-Some.ensures.1) refl refl
+    (c.in_ok-push-3.ensures.items ∙ ap (λ n. vec_items c.args.self.now.rows ++ n ∷ []) c.in-Some.ensures.1) refl refl
