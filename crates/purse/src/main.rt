@@ -1,4 +1,6 @@
 // The command: reads a text from standard input and prints the price of each program that it asks for.
+#![tactic(auto)]
+
 mod answer;
 mod reader;
 #[cfg(test)]

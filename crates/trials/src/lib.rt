@@ -1,4 +1,6 @@
 // Worked examples, in a crate of their own so that what they are about is proved once. What is expected comes from the rules, by hand.
+#![tactic(auto)]
+
 #[cfg(test)]
 mod dear;
 #[cfg(test)]
