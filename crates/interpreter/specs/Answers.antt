@@ -6,7 +6,6 @@ use Rattle.program.specs.Refusal.{number_of}
 use Rattle.program.specs.Rows.{program_in}
 use Rattle.program.specs.declared.refusal.Refusal.{Refusal}
 use Rattle.pricing.specs.Answers.{refused_by, values}
-use Rattle.pricing.specs.declared.done.Done as answers
 use Rattle.pricing.specs.declared.done.Done.{Done}
 use Rattle.pricing.specs.declared.done.Done.TheVariants as done
 use Rattle.interpreter.specs.Runner.{places_in}

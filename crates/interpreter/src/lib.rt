@@ -1,4 +1,6 @@
 // Runs of programs on a purse: every step is paid before it is done, and a run whose purse is too small changes nothing.
+#![tactic(auto)]
+
 mod admission;
 mod arithmetic;
 mod entries;

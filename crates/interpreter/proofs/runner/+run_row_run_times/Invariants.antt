@@ -15,4 +15,4 @@ decreases-run_times l = 2 * l.body + 1
 abbrev pub invariant-run_times-loop-turn : goal.invariant-run_times-loop-turn
 invariant-run_times-loop-turn l =
     run_times (run (at_row l.program.program.numbers.now l.body)) l.times 0 (places_in l.initial.places) l.initial.purse
-    ≡ run_times (run (at_row l.program.program.numbers.now l.body)) (l.times - l.-turn) l.last (places_in l.places) l.purse
+    ≡ run_times (run (at_row l.program.program.numbers.now l.body)) (l.times - l._turn) l.last (places_in l.places) l.purse
