@@ -29,20 +29,20 @@ refused_first (Some r) p cost e h = h
 
 -- what is refused is answered by its refusal, with nothing changed
 pub refused : (f : Option Refusal) (cost : ℕ) (e : Refusal) (xs s o : List ℕ) (g : ℕ) → Err e ≡ unless f cost → Executes f xs s o g (Err e) s o
-refused None cost e xs s o g h = absurd (let z : ◌≡◌ {A = ℕ} 0 1 = cc in omega arith)
+refused None cost e xs s o g h = absurd cc
 refused (Some r) cost e xs s o g h = let same : e ≡ r = cc in (ap Err same, refl, refl)
 
 -- what isn't is answered by the end of its run
 pub executed : (f : Option Refusal) (cost price : ℕ) (xs s o : List ℕ) (g : ℕ) (d : Outcome) (s₁ o₁ : List ℕ) → Ok price ≡ unless f cost → Ends (run (program_in xs) (places_in s) g) s d s₁ → length o₁ ≡ length o → Executes f xs s o g (Ok d) s₁ o₁
 executed None cost price xs s o g d s₁ o₁ h ends room = (d, refl, ends, room)
-executed (Some r) cost price xs s o g d s₁ o₁ h ends room = absurd (let z : ◌≡◌ {A = ℕ} 0 1 = cc in omega arith)
+executed (Some r) cost price xs s o g d s₁ o₁ h ends room = absurd cc
 
 -- a purse of the price isn't too small
 pub not_small : (p : Program) (t : Places) (g : ℕ) (s : List ℕ) (d : Outcome) (s₁ : List ℕ) → at_most p ≤ g → Ends (run p t g) s d s₁ → d ≡ Small → ⊥
 not_small p t g s d s₁ l ends small =
     let (x, u, h, is, _) = enough p t g l in
     let came_to : d ≡ Came x h = (subst (λ r. Ends r s d s₁) is ends).0 in
-    let z : ◌≡◌ {A = ℕ} 0 1 = cc in omega arith
+    cc
 
 -- one refusal or else another, by their numbers
 either_number : (f p : Option Refusal) (m n : ℕ) → answered f ≡ m → answered p ≡ n → answered (option_or f p) ≡ cond (eqb m 0) n m
