@@ -1,5 +1,6 @@
 -- What the entries of runs answer, and what they leave in the places and in the room. Assumes nothing.
 use Rattle.std.specs.Prelude.{◌≡◌, ℕ, zero, suc, ◌<◌, ◌⊎◌, List, [], ◌∷◌, length, Some, None, Ok, Err, Option, Result}
+use Rattle.semantics.specs.Price.{at_most}
 use Rattle.semantics.specs.Program.{Places}
 use Rattle.semantics.specs.Run.{Run, came, too_small, run}
 use Rattle.program.specs.Refusal.{number_of}
@@ -9,25 +10,31 @@ use Rattle.pricing.specs.Answers.{refused_by, values}
 use Rattle.pricing.specs.declared.done.Done.{Done}
 use Rattle.pricing.specs.declared.done.Done.TheVariants as done
 use Rattle.interpreter.specs.Runner.{places_in}
-use Rattle.interpreter.specs.declared.outcome.Outcome.{Outcome}
-use Rattle.interpreter.specs.declared.outcome.Outcome.TheVariants.{Came, Small}
+use Rattle.interpreter.specs.declared.ran.Ran.{Ran}
+use Rattle.interpreter.specs.declared.ran.RunError.{RunError}
+use Rattle.interpreter.specs.declared.ran.RunError.TheVariants.{Refused, TooSmall}
 
 -- how a run ends by its answer, from places s to places s₁: it came to a number, with so much left, and the places are as the run leaves them; or
 -- the purse was too small, and the places are as they were
-abbrev pub Ends : Run → (places : List ℕ) → Outcome → (places₁ : List ℕ) → Type 0
-Ends (came x t h) s d s₁ = (d ≡ Came x h) × (length s₁ ≡ length s) × (places_in s₁ ≡ t)
-Ends too_small s d s₁ = (d ≡ Small) × (s₁ ≡ s)
+abbrev pub Ends : Run → (places : List ℕ) → Result Ran RunError → (places₁ : List ℕ) → Type 0
+Ends (came x t h) s r s₁ = (r ≡ Ok (record { value = x; left = h })) × (length s₁ ≡ length s) × (places_in s₁ ≡ t)
+Ends too_small s r s₁ = (r ≡ Err TooSmall) × (s₁ ≡ s)
 
 -- what is answered and left, by the first refusal that applies: that refusal, and nothing changed; or the end of the run, and a room as long as before
-abbrev pub Executes : Option Refusal → (program places room : List ℕ) → (purse : ℕ) → Result Outcome Refusal → (places₁ room₁ : List ℕ) → Type 0
-Executes None xs s o g r s₁ o₁ = (d : Outcome) × (r ≡ Ok d) × Ends (run (program_in xs) (places_in s) g) s d s₁ × (length o₁ ≡ length o)
-Executes (Some e) xs s o g r s₁ o₁ = (r ≡ Err e) × (s₁ ≡ s) × (o₁ ≡ o)
+abbrev pub Executes : Option Refusal → (program places room : List ℕ) → (purse : ℕ) → Result Ran RunError → (places₁ room₁ : List ℕ) → Type 0
+Executes None xs s o g r s₁ o₁ = Ends (run (program_in xs) (places_in s) g) s r s₁ × (length o₁ ≡ length o)
+Executes (Some e) xs s o g r s₁ o₁ = (r ≡ Err (Refused e)) × (s₁ ≡ s) × (o₁ ≡ o)
 
--- the same answer with a refusal by its number
-abbrev pub run_answer_by : Result Outcome Refusal → Done
-run_answer_by (Ok (Came value left)) = done.Came value left
-run_answer_by (Ok Small) = done.Small
-run_answer_by (Err r) = done.Refused (number_of r)
+-- the same on a purse of the price, where the run came to a number
+abbrev pub RunsAtPrice : Option Refusal → (program places room : List ℕ) → Result Ran Refusal → (places₁ room₁ : List ℕ) → Type 0
+RunsAtPrice None xs s o r s₁ o₁ = (d : Ran) × (r ≡ Ok d) × Ends (run (program_in xs) (places_in s) (at_most (program_in xs))) s (Ok d) s₁ × (length o₁ ≡ length o)
+RunsAtPrice (Some e) xs s o r s₁ o₁ = (r ≡ Err e) × (s₁ ≡ s) × (o₁ ≡ o)
+
+-- an answer with a refusal by its number
+abbrev pub run_answer_by : Result Ran RunError → Done
+run_answer_by (Ok d) = done.Came d.value d.left
+run_answer_by (Err (Refused r)) = done.Refused (number_of r)
+run_answer_by (Err TooSmall) = done.Small
 
 -- the first n places are the same
 unfoldable pub SameTo : ℕ → Places → Places → Type 0

@@ -5,7 +5,8 @@ use Rattle.semantics.specs.Price.{at_most}
 use Rattle.program.specs.Rows.{program_in}
 use Rattle.program.specs.declared.refusal.Refusal.{Refusal}
 use Rattle.program.specs.declared.refusal.Refusal.TheVariants.{RoomLength}
-use Rattle.pricing.specs.Refusals.{refusal, first_refusal, unless}
+use Rattle.program.specs.Validation.{unless}
+use Rattle.pricing.specs.Refusals.{refusal, first_refusal}
 
 -- the number of the first refusal that applies: that of a price, or else 4 for a room of another length than the places; 0 where none applies
 unfoldable pub run_refusal : (program places room : List ℕ) → ℕ

@@ -1,18 +1,19 @@
 // Whether a program may be run on places with a room lent beside them: its price, or the first refusal that applies.
 ghost use Rattle.std.specs.Prelude.{◌≡◌};
+ghost use Rattle.program.specs.Validation.{unless};
 ghost use Rattle.interpreter.specs.Refusals.{room_refusal, admitted};
 
 use pricing::quote;
 use program::Refusal;
 
 // Refusal number 4, if it applies: a room of another length than the places.
-fn room_refusal(room: usize, places: usize) -> Option<Refusal>
-    ensures { result ≡ room_refusal room places }
+fn check_room(room: usize, places: usize) -> Result<(), Refusal>
+    ensures { result ≡ unless (room_refusal room places) tt }
 {
     if room == places {
-        None
+        Ok(())
     } else {
-        Some(Refusal::RoomLength {
+        Err(Refusal::RoomLength {
             length: room,
             places,
         })
@@ -24,11 +25,7 @@ fn room_refusal(room: usize, places: usize) -> Option<Refusal>
 pub(crate) fn admit(program: &[u32], places: usize, room: usize) -> Result<u64, Refusal>
     ensures { result ≡ admitted program.now places room }
 {
-    match quote(program, places) {
-        Ok(price) => match room_refusal(room, places) {
-            None => Ok(price),
-            Some(refusal) => Err(refusal),
-        },
-        Err(refusal) => Err(refusal),
-    }
+    let price = quote(program, places)?;
+    check_room(room, places)?;
+    Ok(price)
 }

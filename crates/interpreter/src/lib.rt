@@ -4,8 +4,8 @@
 mod admission;
 mod arithmetic;
 mod entries;
-mod outcome;
+mod ran;
 mod runner;
 
 pub use entries::{execute, run_at_price, run_it};
-pub use outcome::Outcome;
+pub use ran::{Ran, RunError};

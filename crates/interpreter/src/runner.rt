@@ -1,103 +1,124 @@
-// The runner of rows and the runner of times, which call each other: a recursion on the row's number, which falls, and a counted loop. Every step
-// pays before it is done.
-ghost use Rattle.std.specs.Prelude.{◌≡◌, ◌<◌, true, length};
-ghost use Rattle.semantics.specs.Program.{fits};
+// The runner of a program's rows: a recursion on the row's number, which falls, and a counted loop. Every step pays before it is done.
+ghost use Rattle.std.specs.Prelude.{◌≡◌, ℕ, ◌<◌, length, option_map, slice_index};
 ghost use Rattle.semantics.specs.Run.{run, run_times};
-ghost use Rattle.program.specs.Rows.{row_count, at_row};
-ghost use Rattle.interpreter.specs.Runner.{places_in, as_run, Pays};
+ghost use Rattle.program.specs.Rows.{at_row};
+ghost use Rattle.program.specs.Reads.{RowFits};
+ghost use Rattle.interpreter.specs.Runner.{places_in, as_run, run_pair, Pays};
 
-use crate::arithmetic::{add, less, multiply, smaller};
+use crate::arithmetic::{add, less, multiply};
 use program::{FittingProgram, Row};
 
 // What each step costs.
 const STEP: u64 = 1;
 
-// Pays for one step; `None` where the purse is too small for it.
-fn pay(purse: &mut u64) -> Option<()>
-    ensures { Pays 1 purse.old result purse.new }
-{
-    *purse = purse.checked_sub(STEP)?;
-    Some(())
+// A program, the places that it runs on, as many as it fits, and the purse that it pays from.
+#[derive(Drop)]
+pub(crate) struct Runner<'a> {
+    pub(crate) program: FittingProgram<'a>,
+    pub(crate) places: &'a mut [u32],
+    pub(crate) purse: u64,
+    ghost there: { length places.now ≡ program.places },
 }
 
-// Runs a row on the places: what it comes to, or `None` where the purse is too small.
-#[cycle(run_row_run_times)]
-pub(crate) fn run_row(
-    program: FittingProgram,
-    row: usize,
-    places: &mut [u32],
-    purse: &mut u64,
-) -> Option<u32>
-    requires within { row < row_count program.program.numbers.now }
-    requires fit { fits program.places (at_row program.program.numbers.now row) ≡ true }
-    requires there { length places.old ≡ program.places }
-    ensures { run (at_row program.entry.program.numbers.now row) (places_in places.old) purse.old ≡ as_run result places.new purse.new }
-{
-    pay(purse)?;
-    match program.row_at(row) {
-        Row::Constant { value } => Some(value),
-        Row::Place { place } => Some(places[place]),
-        Row::Add { left, right } => {
-            let augend = run_row(program, left, places, purse)?;
-            let addend = run_row(program, right, places, purse)?;
-            Some(add(augend, addend))
-        }
-        Row::Multiply { left, right } => {
-            let multiplicand = run_row(program, left, places, purse)?;
-            let multiplier = run_row(program, right, places, purse)?;
-            Some(multiply(multiplicand, multiplier))
-        }
-        Row::Less { left, right } => {
-            let lesser = run_row(program, left, places, purse)?;
-            let greater = run_row(program, right, places, purse)?;
-            Some(less(lesser, greater))
-        }
-        Row::Store { place, value } => {
-            let number = run_row(program, value, places, purse)?;
-            places[place] = number;
-            Some(number)
-        }
-        Row::Sequence { first, second } => {
-            run_row(program, first, places, purse)?;
-            run_row(program, second, places, purse)
-        }
-        Row::Choice {
-            condition,
-            then,
-            otherwise,
-        } => {
-            let decided = run_row(program, condition, places, purse)?;
-            if decided != 0 {
-                run_row(program, then, places, purse)
-            } else {
-                run_row(program, otherwise, places, purse)
+impl<'a> Runner<'a> {
+    // Pays for one step; `None` where the purse is too small for it.
+    fn pay(&mut self) -> Option<()>
+        ensures places { self.new.places ≡ self.old.places }
+        ensures program { self.new.program ≡ self.old.program }
+        ensures pays { Pays 1 self.old.purse result self.new.purse }
+    {
+        self.purse = self.purse.checked_sub(STEP)?;
+        Some(())
+    }
+
+    // The number at a place.
+    fn number_at(&self, place: usize) -> u32
+        requires { place < length self.now.places.now }
+        ensures { result ≡ slice_index self.now.places.now place }
+    {
+        self.places[place]
+    }
+
+    // Runs a row on the places: what it comes to, or `None` where the purse is too small.
+    #[tactic(auto, using(crate::proofs::Stepping::steps), unfolding(semantics::specs::Run::run, semantics::specs::Run::then_run))]
+    #[cycle(rows)]
+    pub(crate) fn run_row(&mut self, row: usize) -> Option<u32>
+        requires { RowFits self.old.program.program.numbers.now self.old.program.places row }
+        ensures same_places { self.new.places.ghost_name ≡ self.old.places.ghost_name }
+        ensures program { self.new.program ≡ self.old.program }
+        ensures runs { run (at_row self.old.program.program.numbers.now row) (places_in self.old.places.now) self.old.purse ≡ as_run result self.new.places.now self.new.purse }
+    {
+        self.pay()?;
+        match self.program.row_at(row) {
+            Row::Constant { value } => Some(value),
+            Row::Place { place } => Some(self.number_at(place)),
+            Row::Add { left, right } => {
+                let (augend, addend) = self.run_pair(left, right)?;
+                Some(add(augend, addend))
+            }
+            Row::Multiply { left, right } => {
+                let (multiplicand, multiplier) = self.run_pair(left, right)?;
+                Some(multiply(multiplicand, multiplier))
+            }
+            Row::Less { left, right } => {
+                let (lesser, greater) = self.run_pair(left, right)?;
+                Some(less(lesser, greater))
+            }
+            Row::Store { place, value } => {
+                let number = self.run_row(value)?;
+                self.places[place] = number;
+                Some(number)
+            }
+            Row::Sequence { first, second } => {
+                self.run_row(first)?;
+                self.run_row(second)
+            }
+            Row::Choice {
+                condition,
+                then,
+                otherwise,
+            } => {
+                let decided = self.run_row(condition)?;
+                if decided != 0 {
+                    self.run_row(then)
+                } else {
+                    self.run_row(otherwise)
+                }
+            }
+            Row::Loop { limit, count, body } => {
+                let counted = self.run_row(count)?;
+                self.run_times(body, limit.min(counted))
             }
         }
-        Row::Loop { limit, count, body } => {
-            let counted = run_row(program, count, places, purse)?;
-            run_times(program, body, smaller(limit, counted), places, purse)
-        }
     }
-}
 
-// Runs a row so many times, with 1 paid before each: what it came to last, 0 where it was never run, or `None` where the purse is too small.
-#[cycle(run_row_run_times)]
-fn run_times(
-    program: FittingProgram,
-    body: usize,
-    times: u32,
-    places: &mut [u32],
-    purse: &mut u64,
-) -> Option<u32>
-    requires within { body < row_count program.program.numbers.now }
-    requires fit { fits program.places (at_row program.program.numbers.now body) ≡ true }
-    requires there { length places.old ≡ program.places }
-    ensures { run_times (run (at_row program.entry.program.numbers.now body)) times 0 (places_in places.old) purse.old ≡ as_run result places.new purse.new }
-{
-    let mut last = 0;
-    for _turn in 0..times {
-        pay(purse)?;
-        last = run_row(program, body, places, purse)?;
+    // Runs two rows, one after the other: what they come to, or `None` where the purse is too small.
+    #[tactic(auto, unfolding(semantics::specs::Run::then_run, crate::specs::Runner::run_pair))]
+    #[cycle(rows)]
+    fn run_pair(&mut self, left: usize, right: usize) -> Option<(u32, u32)>
+        requires left { RowFits self.old.program.program.numbers.now self.old.program.places left }
+        requires right { RowFits self.old.program.program.numbers.now self.old.program.places right }
+        ensures same_places { self.new.places.ghost_name ≡ self.old.places.ghost_name }
+        ensures program { self.new.program ≡ self.old.program }
+        ensures runs { (f : ℕ → ℕ → ℕ) → run_pair f (at_row self.old.program.program.numbers.now left) (at_row self.old.program.program.numbers.now right) (places_in self.old.places.now) self.old.purse ≡ as_run (option_map (λ v. f v.0 v.1) result) self.new.places.now self.new.purse }
+    {
+        Some((self.run_row(left)?, self.run_row(right)?))
     }
-    Some(last)
+
+    // Runs a row so many times, with 1 paid before each: what it came to last, 0 where it was never run, or `None` where the purse is too small.
+    #[tactic(auto, using(crate::proofs::Stepping::steps), unfolding(semantics::specs::Run::then_run))]
+    #[cycle(rows)]
+    fn run_times(&mut self, body: usize, times: u32) -> Option<u32>
+        requires { RowFits self.old.program.program.numbers.now self.old.program.places body }
+        ensures same_places { self.new.places.ghost_name ≡ self.old.places.ghost_name }
+        ensures program { self.new.program ≡ self.old.program }
+        ensures runs { run_times (run (at_row self.old.program.program.numbers.now body)) times 0 (places_in self.old.places.now) self.old.purse ≡ as_run result self.new.places.now self.new.purse }
+    {
+        let mut last = 0;
+        for _ in 0..times {
+            self.pay()?;
+            last = self.run_row(body)?;
+        }
+        Some(last)
+    }
 }

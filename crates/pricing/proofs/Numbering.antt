@@ -6,13 +6,14 @@ use Rattle.semantics.specs.Price.{at_most}
 use Rattle.semantics.proofs.Pricing.{price_above_nothing}
 use Rattle.program.specs.Refusal.{number_of}
 use Rattle.program.specs.Rows.{program_in}
-use Rattle.program.specs.Validation.{answered, refusal_number, rows_taken, places_taken, program_refusal}
+use Rattle.program.specs.Validation.{answered, refusal_number, rows_taken, places_taken, unless, program_refusal}
 use Rattle.program.specs.declared.refusal.Refusal.{Refusal}
 use Rattle.program.specs.declared.refusal.Refusal.TheVariants.{CutShort, NoRows, TooManyRows, UnknownKind, NotEarlier, NoSuchPlace, TooManyPlaces, TooDear, RoomLength, Unreadable}
 use Rattle.program.proofs.Options.{none_some, or_none}
 use Rattle.program.proofs.Numbering.{answered_by_number}
+use Rattle.program.proofs.Unless.{unless_ok}
 use Rattle.pricing.specs.Table.{max_price}
-use Rattle.pricing.specs.Refusals.{refusal, dear_row, price_refusal, first_refusal, unless, quoted}
+use Rattle.pricing.specs.Refusals.{refusal, dear_row, price_refusal, first_refusal, quoted}
 use Rattle.pricing.specs.Answers.{refused_by, values, answer_by, PriceSays, PriceNumbers}
 use Rattle.pricing.specs.declared.done.Done.{Done}
 use Rattle.pricing.specs.declared.done.Done.TheVariants.{Costs, Came, Small, Refused}
@@ -100,14 +101,9 @@ numbers_tell_apart (Refused n) (Came y m) f g h k = cc
 numbers_tell_apart (Refused n) Small f g h k = absurd (f (ap Refused h))
 numbers_tell_apart (Refused n) (Refused m) f g h k = ap Refused h
 
--- a price is quoted only where nothing is refused
-pub unless_ok : (o : Option Refusal) (price cost : ℕ) → unless o cost ≡ Ok price → (o ≡ None) × (cost ≡ price)
-unless_ok None price cost e = (refl, cc)
-unless_ok (Some r) price cost e = (cc, cc)
-
 pub quoted_within_limits : (xs : List ℕ) (n price : ℕ) → quoted xs n ≡ Ok price → (1 ≤ price) × (price ≤ max_price)
 quoted_within_limits xs n price e =
-    let (none, is) = unless_ok (first_refusal xs n) price (at_most (program_in xs)) e in
+    let (none, is) = unless_ok (first_refusal xs n) (at_most (program_in xs)) price e in
     let (_, cheap) = or_none (program_refusal xs n) (price_refusal xs) none in
     (subst (λ (p : ℕ). 1 ≤ p) is (price_above_nothing (program_in xs)), subst (λ (p : ℕ). p ≤ max_price) is (unrefused_price (at_most (program_in xs)) (dear_row xs) cheap))
   where

@@ -1,10 +1,10 @@
 -- Which refusal a price gets: the first that applies, 1 the rows, 2 the places, 3 the price. Assumes nothing.
-use Rattle.std.specs.Prelude.{ℕ, zero, suc, ◌-◌, Bool, cond, ◌&&◌, List, length, Some, None, Ok, Err, Option, Result, nat_le, nat_lt}
+use Rattle.std.specs.Prelude.{ℕ, zero, suc, ◌-◌, Bool, cond, ◌&&◌, List, length, Some, None, Option, Result, nat_le, nat_lt}
 use Rattle.std.specs.Option.{option_or}
 use Rattle.semantics.specs.Price.{at_most}
 use Rattle.program.specs.Rows.{row_count, program_in, at_row}
 use Rattle.program.specs.Reach.{reached}
-use Rattle.program.specs.Validation.{rows_taken, places_taken, program_refusal}
+use Rattle.program.specs.Validation.{rows_taken, places_taken, unless, program_refusal}
 use Rattle.program.specs.declared.refusal.Refusal.{Refusal}
 use Rattle.program.specs.declared.refusal.Refusal.TheVariants.{TooDear}
 use Rattle.pricing.specs.Table.{max_price}
@@ -22,6 +22,10 @@ lowest f (suc n) = cond (f 0) 0 (suc (lowest (λ i. f (suc i)) n))
 abbrev pub is_dear : List ℕ → (i : ℕ) → Bool
 is_dear xs i = reached xs i && nat_lt max_price (at_most (at_row xs i))
 
+-- the same of a row's flag and its price side by side
+abbrev pub dear_pair : Bool × ℕ → Bool
+dear_pair p = p.0 && nat_lt max_price p.1
+
 -- the lowest such row; the last one, if none is lower
 abbrev pub dear_row : List ℕ → ℕ
 dear_row xs = lowest (is_dear xs) (row_count xs - 1)
@@ -33,11 +37,6 @@ price_refusal xs = cond (nat_le (at_most (program_in xs)) max_price) None (Some 
 -- the first refusal of a program in rows and so many places, for a price
 abbrev pub first_refusal : List ℕ → (places : ℕ) → Option Refusal
 first_refusal xs n = option_or (program_refusal xs n) (price_refusal xs)
-
--- a price, unless there is a refusal
-abbrev pub unless : Option Refusal → (price : ℕ) → Result ℕ Refusal
-unless None price = Ok price
-unless (Some r) price = Err r
 
 -- what is quoted for a program in rows and so many places
 abbrev pub quoted : List ℕ → (places : ℕ) → Result ℕ Refusal

@@ -1,6 +1,10 @@
 // What an entry answers.
+ghost use Rattle.std.specs.Prelude.{◌≡◌};
+ghost use Rattle.pricing.specs.Answers.{answer_by};
 
-#[derive(Clone, Copy)]
+use program::Refusal;
+
+#[derive(Clone, Copy, Debug, PartialEq, Eq)]
 pub enum Done {
     // What the program costs at most.
     Costs(u64),
@@ -10,4 +14,16 @@ pub enum Done {
     Small,
     // Turned away by the refusal of that number.
     Refused(u64),
+}
+
+// What is quoted, with a refusal by its number.
+impl From<Result<u64, Refusal>> for Done {
+    ghost from_gives = { λ quoted answer. answer ≡ answer_by quoted };
+
+    fn from(quoted: Result<u64, Refusal>) -> Done {
+        match quoted {
+            Ok(price) => Done::Costs(price),
+            Err(refusal) => Done::Refused(refusal.number()),
+        }
+    }
 }

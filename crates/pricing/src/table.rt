@@ -1,5 +1,5 @@
 // The price of each row by the rows that it names, in one pass over the rows, in a table of fixed size.
-ghost use Rattle.std.specs.Prelude.{◌≡◌, ℕ, ◌+◌, ◌*◌, ◌<◌, ◌≤◌, replicate, slice_index};
+ghost use Rattle.std.specs.Prelude.{◌≡◌, ℕ, ◌+◌, ◌*◌, ◌<◌, ◌≤◌, slice_index};
 ghost use Rattle.std.specs.List.{AllByRecursion};
 ghost use Rattle.program.specs.Row.{named};
 ghost use Rattle.program.specs.Rows.{row_count};
@@ -11,13 +11,6 @@ use program::{Row, ValidProgram};
 
 // A price for each row that a program may have.
 pub type Prices = [u64; MAX_ROWS];
-
-// A table without prices.
-fn unpriced() -> Prices
-    ensures { result ≡ replicate 256 0 }
-{
-    [0; MAX_ROWS]
-}
 
 // A price, or the cap where it is higher.
 fn capped(price: u64) -> u64
@@ -31,7 +24,7 @@ fn all_times(limit: u32, body: u64) -> u64
     requires { body ≤ cap }
     ensures { result ≡ capped (limit * (1 + body)) }
 {
-    capped((limit as u64).saturating_mul(1 + body))
+    capped(u64::from(limit).saturating_mul(1 + body))
 }
 
 // The price of a row by the prices of the rows that it names.
@@ -41,13 +34,15 @@ fn row_price(prices: &Prices, row: Row) -> u64
     ensures { result ≡ capped (price_of (λ j. slice_index prices.now j) row) }
 {
     match row {
-        Row::Constant { .. } => 1,
-        Row::Place { .. } => 1,
-        Row::Add { left, right } => capped(1 + prices[left] + prices[right]),
-        Row::Multiply { left, right } => capped(1 + prices[left] + prices[right]),
-        Row::Less { left, right } => capped(1 + prices[left] + prices[right]),
+        Row::Constant { .. } | Row::Place { .. } => 1,
         Row::Store { value, .. } => capped(1 + prices[value]),
-        Row::Sequence { first, second } => capped(1 + prices[first] + prices[second]),
+        Row::Add { left, right }
+        | Row::Multiply { left, right }
+        | Row::Less { left, right }
+        | Row::Sequence {
+            first: left,
+            second: right,
+        } => capped(1 + prices[left] + prices[right]),
         Row::Choice {
             condition,
             then,
@@ -63,8 +58,8 @@ fn row_price(prices: &Prices, row: Row) -> u64
 pub fn row_prices(program: ValidProgram) -> Prices
     ensures { Priced program.entry.numbers.now (row_count program.entry.numbers.now) result }
 {
-    let mut prices = unpriced();
-    for row in 0..program.last_row() + 1 {
+    let mut prices = [0; MAX_ROWS];
+    for row in 0..program.row_count() {
         prices[row] = row_price(&prices, program.row_at(row));
     }
     prices

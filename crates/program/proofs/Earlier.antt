@@ -1,6 +1,6 @@
 -- Rows that are right name earlier rows only. Assumes nothing.
-use Rattle.std.proofs.Common.{◌≡◌, ℕ, ◌<◌, Bool, true, false, ◌&&◌, eqb, ltb, leb, List, [], ◌∷◌, sym, refl, ap, ◌∙◌, arith}
-use Rattle.std.proofs.lemmas.Bool.{cond-false, ne_eqb, lt-leb, ltb-true, and_parts, and_left}
+use Rattle.std.proofs.Common.{◌≡◌, ℕ, ◌<◌, ◌≤◌, Bool, true, false, ◌&&◌, eqb, ltb, leb, List, [], ◌∷◌, sym, refl, ap, ◌∙◌, arith}
+use Rattle.std.proofs.lemmas.Bool.{cond-false, ne_eqb, lt-leb, leb-true, ltb-true, and_parts, and_left}
 use Rattle.std.proofs.lemmas.Bool.Decides.{Decides-below_and}
 use Rattle.std.specs.List.{AllByRecursion}
 use Rattle.program.specs.Row.{decoded, named, kind, row_in}
@@ -46,6 +46,10 @@ all_earlier i (j ∷ js) h = let p = and_parts (ltb j i) (earlier i js) h in (lt
 row_ok_at : (xs : List ℕ) (n i : ℕ) → rows_ok xs n ≡ true → i < n → row_ok xs i ≡ true
 unfolding rows_ok
 row_ok_at xs n i h = (Decides-below_and (row_ok xs) (λ k. row_ok xs k ≡ true) (rows_ok xs) (λ k. (λ e. e, λ e. e)) refl (λ k. refl) n).0 h i
+
+-- a row that is right is of a kind there is
+pub known_kind : (xs : List ℕ) (n i : ℕ) → rows_ok xs n ≡ true → i < n → kind xs i ≤ 8
+known_kind xs n i h l = leb-true (kind xs i) 8 (and_parts (leb (kind xs i) 8) _ (sym (row_ok_is xs i) ∙ row_ok_at xs n i h l)).0
 
 -- what a row names is earlier
 pub names_earlier : (xs : List ℕ) (n i : ℕ) → rows_ok xs n ≡ true → i < n → AllByRecursion (λ j. j < i) (named (row_in xs i))

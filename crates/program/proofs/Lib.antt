@@ -9,4 +9,5 @@ pub mod Reaching
 pub mod Refusing
 pub mod Shape
 pub mod Tables
+pub mod Unless
 pub mod Validated

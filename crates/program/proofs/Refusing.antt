@@ -1,14 +1,16 @@
 -- Which refusal the definitions give: how a scan goes on, and when it says nothing. Assumes nothing.
-use Rattle.std.proofs.Common.{◌≡◌, ℕ, zero, suc, ◌+◌, ◌*◌, ◌<◌, ◌≤◌, Bool, true, false, cond, not, ◌&&◌, ◌||◌, eqb, ltb, leb, ◌⊎◌, List, [], ◌∷◌, length, is_some, Some, None, Option, sym, refl, ap, ◌∙◌, subst, inl, inr, ⊎_elim, add-one, arith}
-use Rattle.std.proofs.lemmas.Bool.{true≢false, false≢true, ne_eqb, le-leb, and_parts, and_from, not-false, not_from_false, cases_lt}
-use Rattle.std.specs.Option.{option_or}
+use Rattle.std.proofs.Common.{◌≡◌, ℕ, zero, suc, ◌+◌, ◌*◌, ◌<◌, ◌≤◌, Bool, true, false, cond, not, ◌&&◌, ◌||◌, eqb, ltb, leb, ◌⊎◌, List, [], ◌∷◌, length, is_some, Some, None, Ok, Err, Option, sym, refl, ap, ◌∙◌, subst, inl, inr, ⊎_elim, add-one, arith}
+use Rattle.std.proofs.lemmas.Bool.{ne_eqb, le-leb, and_parts, and_from, not-false, not_from_false, cases_lt}
+use Rattle.std.specs.Option.{option_or, option_map}
 use Rattle.program.specs.Row.{kind, named, row_in}
 use Rattle.program.specs.Rows.{row_count, row_ok, rows_ok, shaped, Valid}
-use Rattle.program.specs.Validation.{rows_taken, first_said, first_not_earlier, order_refusal, row_refusal, rows_refusal}
+use Rattle.program.specs.Validation.{unless, rows_taken, first_said, first_not_earlier, kind_refusal, order_refusal, row_refusal, rows_refusal}
+use Rattle.program.specs.declared.row.Row.{Row}
 use Rattle.program.specs.declared.refusal.Refusal.{Refusal}
 use Rattle.program.specs.declared.refusal.Refusal.TheVariants.{NotEarlier}
 use Rattle.program.proofs.Earlier.{earlier, row_ok_is}
 use Rattle.program.proofs.Options.{none_some, or_none, cases_option, none_if, some_of_either, some_mapped}
+use Rattle.program.proofs.Unless.{unless_ok, unless_err}
 
 at_end : (i n : ℕ) → i ≤ suc n → (i ≡ suc n) ⊎ (i ≤ n)
 at_end i n h = ⊎_elim (λ l. inr (omega arith)) (λ l. inl (omega arith)) (cases_lt i (suc n))
@@ -20,17 +22,15 @@ said_on f r i zero e h = let z : i ≡ 0 = omega arith in subst (λ (k : ℕ). f
 said_on f r i (suc n) e h =
     ⊎_elim (λ z. subst (λ (k : ℕ). first_said f k ≡ Some r) z e) (λ l. ap (λ o. option_or o (f n)) (said_on f r i n e l)) (at_end i n h)
 
--- a row of which something is said, where nothing was said before it, is what the scan says
-pub said_here : (f : ℕ → Option Refusal) (i n : ℕ) (o : Option Refusal) → first_said f i ≡ None → o ≡ f i → is_some o ≡ true → i < n → o ≡ first_said f n
+-- a scan up to row i has said nothing: what is refused of row i is what the scan to the end answers
+pub refused_here : (f : ℕ → Option Refusal) (i n : ℕ) (r : Refusal) → first_said f i ≡ None → unless (f i) (tt {0}) ≡ Err r → i < n → unless (first_said f n) (tt {0}) ≡ Err r
 unfolding first_said
-said_here f i n None e here some l = absurd (false≢true some)
-said_here f i n (Some r) e here some l = sym (said_on f r (suc i) n (ap (λ o. option_or o (f i)) e ∙ sym here) l)
+refused_here f i n r none here l = ap (λ o. unless o (tt {0})) (said_on f r (suc i) n (ap (λ o. option_or o (f i)) none ∙ unless_err (f i) tt r here) l)
 
--- a row of which nothing is said
-pub said_nothing : (f : ℕ → Option Refusal) (i : ℕ) (o : Option Refusal) → first_said f i ≡ None → o ≡ f i → is_some o ≡ false → first_said f (i + 1) ≡ None
+-- and where nothing is refused of it, nothing is said up to the next row
+pub taken_here : (f : ℕ → Option Refusal) (i : ℕ) → first_said f i ≡ None → unless (f i) (tt {0}) ≡ Ok tt → first_said f (i + 1) ≡ None
 unfolding first_said
-said_nothing f i None e here none = ap (first_said f) (add-one i) ∙ ap (λ o. option_or o (f i)) e ∙ sym here
-said_nothing f i (Some r) e here none = absurd (true≢false none)
+taken_here f i none here = ap (first_said f) (add-one i) ∙ ap (λ o. option_or o (f i)) none ∙ (unless_ok (f i) tt tt here).0
 
 -- of no row nothing is said
 pub said_none : (f : ℕ → Option Refusal) → first_said f 0 ≡ None
@@ -70,6 +70,14 @@ later_by false e o j h = refl
 kind_by : (t e : Bool) (o : Option Refusal) (x : Refusal) → is_some o ≡ not e → is_some (option_or (cond t None (Some x)) o) ≡ not (t && e)
 kind_by true e o x h = h
 kind_by false e o x h = refl
+
+-- what is refused of a row of a known kind, by the first row that it names and that isn't earlier
+pub row_refusal_named : (xs : List ℕ) (i : ℕ) (r : Row) (js : List ℕ) (o : Option ℕ) → unless (kind_refusal i (kind xs i)) (tt {0}) ≡ Ok tt → r ≡ row_in xs i → js ≡ named r → o ≡ first_not_earlier i js →
+    row_refusal xs i ≡ option_map (NotEarlier i) o
+unfolding row_refusal
+row_refusal_named xs i r js o known read is found =
+    ap (λ k. option_or k (order_refusal i (named (row_in xs i)))) (unless_ok (kind_refusal i (kind xs i)) tt tt known).0
+    ∙ ap (option_map (NotEarlier i)) (ap (first_not_earlier i) (ap named (sym read) ∙ sym is) ∙ sym found)
 
 later_some : (i : ℕ) (js : List ℕ) → is_some (first_not_earlier i js) ≡ not (earlier i js)
 later_some i [] = refl

@@ -18,6 +18,11 @@ pub record Last (xs : List ℕ) (i : ℕ) : Type 0 where
   pub few : i < 256
   pub program : program_in xs ≡ at_row xs i
 
+-- there is a row i, and its program fits n places
+pub record RowFits (xs : List ℕ) (n i : ℕ) : Type 0 where
+  pub within : i < row_count xs
+  pub fit : fits n (at_row xs i) ≡ true
+
 -- the place that a row names by itself, if it names one, is among n
 abbrev pub There : ℕ → Row → Type 0
 There n r = IfSome (own_place r) (λ i. i < n)

@@ -1,9 +1,9 @@
 -- What a row of four numbers says: its kind, the rows that it names and the place that it names. Assumes nothing.
 use Rattle.std.specs.Prelude.{ℕ, ◌+◌, ◌*◌, cond, List, [], ◌∷◌, Some, None, Option, ◌==◌, slice_index}
 use Rattle.program.specs.declared.row.Row.{Row}
-use Rattle.program.specs.declared.row.Row.TheVariants.{Constant, Place, Add, Multiply, Less, Store, Sequence, Choice, Loop}
 use Rattle.program.specs.declared.row.Named.{Named}
 use Rattle.program.specs.declared.row.Named.TheVariants.{Nothing, One, Two, Three}
+use Rattle.program.specs.declared.row.Row.TheVariants.{Constant, Place, Add, Multiply, Less, Store, Sequence, Choice, Loop}
 
 -- where the numbers of row i stand: its kind, and the three after it. Only these four know the layout
 abbrev pub kind : List ℕ → ℕ → ℕ

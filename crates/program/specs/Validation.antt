@@ -1,5 +1,5 @@
 -- Which refusal a program in rows and a count of places get: the first that applies, by number and then by row. Assumes nothing.
-use Rattle.std.specs.Prelude.{ℕ, zero, suc, ◌*◌, Bool, cond, ◌&&◌, List, [], ◌∷◌, length, Some, None, Option, ◌==◌, nat_le, nat_lt}
+use Rattle.std.specs.Prelude.{◌≡◌, ℕ, zero, suc, ◌*◌, Bool, cond, ◌&&◌, List, [], ◌∷◌, length, Some, None, Ok, Err, Option, Result, MatchResult, ◌==◌, nat_le, nat_lt}
 use Rattle.std.specs.Option.{option_map, option_or}
 use Rattle.semantics.specs.Program.{fits}
 use Rattle.program.specs.Row.{kind, row_in, named, own_place}
@@ -25,6 +25,15 @@ refusal_number xs n = cond (rows_taken xs) (cond (places_taken xs n) 0 2) 1
 abbrev pub answered : Option Refusal → ℕ
 answered None = 0
 answered (Some r) = number_of r
+
+-- what is answered, unless there is a refusal
+abbrev pub unless : {A : Type 0} → Option Refusal → A → Result A Refusal
+unless None answer = Ok answer
+unless (Some r) answer = Err r
+
+-- what validation answers, by the refusal that applies: a value that P holds of where there is none, else that refusal
+abbrev pub Validates : {A : Type 0} → Option Refusal → Result A Refusal → (A → Type 0) → Type 0
+Validates o r P = MatchResult r (λ x. (o ≡ None) × P x) (λ e. o ≡ Some e)
 
 -- what is said first, of so many rows from row 0 up
 unfoldable pub first_said : (ℕ → Option Refusal) → ℕ → Option Refusal

@@ -1,8 +1,7 @@
 // How validated programs are made, and how their rows are read.
-ghost use Rattle.std.specs.Prelude.{◌≡◌, ◌<◌, true, None};
-ghost use Rattle.semantics.specs.Program.{fits};
-ghost use Rattle.program.specs.Rows.{row_count, at_row};
-ghost use Rattle.program.specs.Reads.{Reads, Last, FitsReads};
+ghost use Rattle.std.specs.Prelude.{◌≡◌, ◌<◌, None};
+ghost use Rattle.program.specs.Rows.{row_count};
+ghost use Rattle.program.specs.Reads.{Reads, Last, RowFits, FitsReads};
 ghost use Rattle.program.specs.Validation.{rows_refusal, program_refusal};
 
 use crate::fitting::FittingProgram;
@@ -11,7 +10,7 @@ use crate::row::Row;
 use crate::valid::ValidProgram;
 
 impl<'a> ValidProgram<'a> {
-    // The program of numbers that `rows_refusal` takes.
+    // The program of numbers that `try_from` takes.
     pub fn new(numbers: &'a [u32]) -> ValidProgram<'a>
         requires { rows_refusal numbers.now ≡ None }
         ensures { result.numbers.now ≡ numbers.now }
@@ -55,8 +54,7 @@ impl<'a> FittingProgram<'a> {
 
     // The row of that number, where its program fits: so do the programs at the rows that it names, and the place that it names is there.
     pub fn row_at(self, row: usize) -> Row
-        requires within { row < row_count self.program.numbers.now }
-        requires fit { fits self.places (at_row self.program.numbers.now row) ≡ true }
+        requires { RowFits self.program.numbers.now self.places row }
         ensures { FitsReads self.entry.program.numbers.now self.entry.places row result }
     {
         self.program.row_at(row)

@@ -16,4 +16,4 @@ pub use reach::{Table, reached_rows};
 pub use refusal::Refusal;
 pub use row::Row;
 pub use valid::ValidProgram;
-pub use validation::{places_refusal, rows_refusal, validate};
+pub use validation::validate;

@@ -11,13 +11,6 @@ use crate::valid::ValidProgram;
 // A flag for each row that a program may have.
 pub type Table = [bool; MAX_ROWS];
 
-// A table with no row marked.
-fn unmarked() -> Table
-    ensures { result ≡ replicate 256 false }
-{
-    [false; MAX_ROWS]
-}
-
 // Marks the rows that a row names.
 fn mark(table: &mut Table, rows: Named)
     requires { AllByRecursion (λ j. j < 256) (named_rows rows) }
@@ -43,9 +36,9 @@ pub fn reached_rows(program: ValidProgram) -> Table
     ensures { (k : ℕ) → slice_index_or result k false ≡ reached program.entry.numbers.now k }
 {
     let last = program.last_row();
-    let mut table = unmarked();
+    let mut table = [false; MAX_ROWS];
     table[last] = true;
-    for row in (0..last + 1).rev() {
+    for row in (0..program.row_count()).rev() {
         if table[row] {
             mark(&mut table, program.row_at(row).named());
         }

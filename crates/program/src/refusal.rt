@@ -2,7 +2,7 @@
 ghost use Rattle.std.specs.Prelude.{◌≡◌};
 ghost use Rattle.program.specs.Refusal.{number_of, place_of};
 
-#[derive(Clone, Copy)]
+#[derive(Clone, Copy, Debug, PartialEq, Eq)]
 pub enum Refusal {
     // Number 1: the `count` numbers aren't rows of four, since `row` is cut short.
     CutShort {
@@ -60,13 +60,12 @@ impl Refusal {
         ensures { result ≡ number_of self }
     {
         match self {
-            Refusal::CutShort { .. } => 1,
-            Refusal::NoRows => 1,
-            Refusal::TooManyRows { .. } => 1,
-            Refusal::UnknownKind { .. } => 1,
-            Refusal::NotEarlier { .. } => 1,
-            Refusal::NoSuchPlace { .. } => 2,
-            Refusal::TooManyPlaces { .. } => 2,
+            Refusal::CutShort { .. }
+            | Refusal::NoRows
+            | Refusal::TooManyRows { .. }
+            | Refusal::UnknownKind { .. }
+            | Refusal::NotEarlier { .. } => 1,
+            Refusal::NoSuchPlace { .. } | Refusal::TooManyPlaces { .. } => 2,
             Refusal::TooDear { .. } => 3,
             Refusal::RoomLength { .. } => 4,
             Refusal::Unreadable { .. } => 5,
@@ -77,17 +76,17 @@ impl Refusal {
     pub fn place(self) -> u64
         ensures { result ≡ place_of self }
     {
-        match self {
-            Refusal::CutShort { row, .. } => row as u64,
-            Refusal::NoRows => 0,
-            Refusal::TooManyRows { limit, .. } => limit as u64,
-            Refusal::UnknownKind { row, .. } => row as u64,
-            Refusal::NotEarlier { row, .. } => row as u64,
-            Refusal::NoSuchPlace { place, .. } => place as u64,
-            Refusal::TooManyPlaces { limit, .. } => limit as u64,
-            Refusal::TooDear { .. } => 0,
-            Refusal::RoomLength { length, .. } => length as u64,
-            Refusal::Unreadable { line } => line as u64,
-        }
+        let place = match self {
+            Refusal::CutShort { row, .. }
+            | Refusal::UnknownKind { row, .. }
+            | Refusal::NotEarlier { row, .. } => row,
+            Refusal::NoRows | Refusal::TooDear { .. } => 0,
+            Refusal::TooManyRows { limit, .. } => limit,
+            Refusal::NoSuchPlace { place, .. } => place,
+            Refusal::TooManyPlaces { limit, .. } => limit,
+            Refusal::RoomLength { length, .. } => length,
+            Refusal::Unreadable { line } => line,
+        };
+        place as u64
     }
 }

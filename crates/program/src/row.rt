@@ -1,6 +1,6 @@
 // One row of a program, by its kind, and how it is read from the numbers.
 ghost use Rattle.std.specs.Prelude.{◌≡◌, ◌+◌, ◌*◌, ◌≤◌, length};
-ghost use Rattle.program.specs.Row.{row_in, named, own_place, named_rows};
+ghost use Rattle.program.specs.Row.{kind, row_in, named, own_place, named_rows};
 
 use crate::limits::ROW_LENGTH;
 
@@ -17,7 +17,7 @@ use crate::limits::ROW_LENGTH;
 // | 6 | first, second | first, then second, whose number it is |
 // | 7 | condition, then, otherwise | condition; then `then` if it isn't 0, else `otherwise` |
 // | 8 | limit, count, body | count; then body so often, but limit times at most, 1 more for each time: what body came to last, or 0 |
-#[derive(Clone, Copy)]
+#[derive(Clone, Copy, Debug, PartialEq, Eq)]
 pub enum Row {
     Constant {
         value: u32,
@@ -57,8 +57,8 @@ pub enum Row {
     },
 }
 
-// The rows that a row names, in the order in which it names them.
-#[derive(Clone, Copy)]
+// The rows that a row names, in the order in which it names them. An array of options was tried: prices then take four tenths longer.
+#[derive(Clone, Copy, Debug, PartialEq, Eq)]
 pub(crate) enum Named {
     Nothing,
     One(usize),
@@ -67,9 +67,11 @@ pub(crate) enum Named {
 }
 
 impl Row {
-    // The row of that number. A kind above 8 reads as a loop; validation refuses it first.
+    // The row of that number, of a kind that there is.
+    #[tactic(auto, unfolding(crate::specs::Row::decoded))]
     pub(crate) fn decode(numbers: &[u32], row: usize) -> Row
-        requires { 4 * row + 4 ≤ length numbers.now }
+        requires there { 4 * row + 4 ≤ length numbers.now }
+        requires known { kind numbers.now row ≤ 8 }
         ensures { result ≡ row_in numbers.now row }
     {
         let at = ROW_LENGTH * row;
@@ -94,11 +96,12 @@ impl Row {
                 then: q,
                 otherwise: r,
             },
-            _ => Row::Loop {
+            8 => Row::Loop {
                 limit: a,
                 count: q,
                 body: r,
             },
+            _ => unreachable!(),
         }
     }
 
@@ -107,12 +110,10 @@ impl Row {
         ensures { named_rows result ≡ named self }
     {
         match self {
-            Row::Constant { .. } => Named::Nothing,
-            Row::Place { .. } => Named::Nothing,
-            Row::Add { left, right } => Named::Two(left, right),
-            Row::Multiply { left, right } => Named::Two(left, right),
-            Row::Less { left, right } => Named::Two(left, right),
+            Row::Constant { .. } | Row::Place { .. } => Named::Nothing,
             Row::Store { value, .. } => Named::One(value),
+            Row::Add { left, right } | Row::Multiply { left, right } | Row::Less { left, right } =>
+                Named::Two(left, right),
             Row::Sequence { first, second } => Named::Two(first, second),
             Row::Choice {
                 condition,
@@ -128,15 +129,14 @@ impl Row {
         ensures { result ≡ own_place self }
     {
         match self {
-            Row::Constant { .. } => None,
-            Row::Place { place } => Some(place),
-            Row::Add { .. } => None,
-            Row::Multiply { .. } => None,
-            Row::Less { .. } => None,
-            Row::Store { place, .. } => Some(place),
-            Row::Sequence { .. } => None,
-            Row::Choice { .. } => None,
-            Row::Loop { .. } => None,
+            Row::Place { place } | Row::Store { place, .. } => Some(place),
+            Row::Constant { .. }
+            | Row::Add { .. }
+            | Row::Multiply { .. }
+            | Row::Less { .. }
+            | Row::Sequence { .. }
+            | Row::Choice { .. }
+            | Row::Loop { .. } => None,
         }
     }
 }

@@ -1,18 +1,18 @@
 -- Words one after another. Assumes nothing.
-use Rattle.std.proofs.Common.{ℕ, Bool, true, List, [], ◌∷◌, ◌++◌, sym, subst, append_assoc, append-nil}
+use Rattle.std.proofs.Common.{ℕ, Bool, true, List, [], ◌∷◌, ◌++◌, append_assoc, append-nil}
 use Rattle.purse.specs.Words.{TakesEach, takes_none, takes_next, Takes, ByWords}
 use Rattle.purse.specs.declared.reader.Text.{Text}
 
 -- what some words take to t, and more words on from there
 takes_on : {s t : Text} (ws : List (List ℕ)) → TakesEach s ws t true → {vs : List (List ℕ)} {u : Text} {fits : Bool} → TakesEach t vs u fits → TakesEach s (ws ++ vs) u fits
-takes_on {s} {t} ws h takes_none = subst (λ l. TakesEach s l t true) (sym (append-nil ws)) h
-takes_on {s} ws h (takes_next vs v w u fits before last) = subst (λ l. TakesEach s l u fits) (append_assoc ws vs (w ∷ [])) (takes_next (ws ++ vs) v w u fits (takes_on ws h before) last)
+takes_on ws h takes_none = rw append-nil h
+takes_on ws h (takes_next vs v w u fits before last) = rw (← append_assoc ws vs (w ∷ [])) (takes_next (ws ++ vs) v w u fits (takes_on ws h before) last)
 
 pub by_no_words : (s : Text) → ByWords s s true
 by_no_words s = ([], takes_none)
 
-pub by_more_words : (s t u : Text) (fits : Bool) → ByWords s t true → ByWords t u fits → ByWords s u fits
-by_more_words s t u fits h k = (h.0 ++ k.0, takes_on h.0 h.1 k.1)
+pub by_more_words : {s t u : Text} {fits : Bool} → ByWords s t true → ByWords t u fits → ByWords s u fits
+by_more_words h k = (h.0 ++ k.0, takes_on h.0 h.1 k.1)
 
-pub by_one_more : (s t u : Text) (w : List ℕ) (fits : Bool) → ByWords s t true → Takes w t u fits → ByWords s u fits
-by_one_more s t u w fits h k = (h.0 ++ w ∷ [], takes_next h.0 t w u fits h.1 k)
+pub by_one_more : {s t u : Text} {w : List ℕ} {fits : Bool} → ByWords s t true → Takes w t u fits → ByWords s u fits
+by_one_more {t = t} {u} {w} {fits} h k = (h.0 ++ w ∷ [], takes_next h.0 t w u fits h.1 k)

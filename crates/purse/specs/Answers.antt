@@ -5,16 +5,10 @@ use Rattle.program.specs.declared.refusal.Refusal.{Refusal}
 use Rattle.program.specs.declared.refusal.Refusal.TheVariants.{CutShort, NoRows, TooManyRows, UnknownKind, NotEarlier, NoSuchPlace, TooManyPlaces, TooDear, RoomLength, Unreadable}
 use Rattle.pricing.specs.Refusals.{quoted}
 use Rattle.purse.specs.declared.answer.Answer.{Answer}
-use Rattle.purse.specs.declared.answer.Answer.TheVariants.{Costs, TurnedAway}
 
--- the answer by what is quoted
-abbrev pub answer_by : Result ℕ Refusal → Answer
-answer_by (Ok price) = Costs price
-answer_by (Err r) = TurnedAway r
-
--- the answer to `price`, for rows and a count of places
+-- the answer to `price`, for rows and a count of places: what is quoted
 abbrev pub answer_to : (rows : List ℕ) → (places : ℕ) → Answer
-answer_to xs n = answer_by (quoted xs n)
+answer_to xs n = record { 0 = quoted xs n }
 
 -- why, in one line with the actual numbers
 abbrev pub reason : Refusal → List ℕ
@@ -34,6 +28,6 @@ abbrev pub turned_away : (number place : ℕ) → Refusal → List ℕ
 turned_away number place r = codes "turned away " ++ (decimal number ++ (codes " at " ++ (decimal place ++ (codes ": " ++ reason r))))
 
 -- the line that is printed
-abbrev pub shown_answer : Answer → List ℕ
-shown_answer (Costs price) = codes "costs " ++ decimal price
-shown_answer (TurnedAway r) = turned_away (number_of r) (place_of r) r
+abbrev pub shown_answer : Result ℕ Refusal → List ℕ
+shown_answer (Ok price) = codes "costs " ++ decimal price
+shown_answer (Err r) = turned_away (number_of r) (place_of r) r

@@ -1,27 +1,13 @@
 // What is answered, and the words in which it is printed.
-ghost use Rattle.std.specs.Prelude.{◌≡◌, Some};
-ghost use Rattle.purse.specs.Answers.{answer_to, reason, shown_answer};
+ghost use Rattle.std.specs.Prelude.{Some};
+ghost use Rattle.purse.specs.Answers.{reason, shown_answer};
 
-use pricing::quote;
 use program::Refusal;
 use std::fmt;
 
 // A program's price, or why something is turned away.
-#[derive(Clone, Copy, Drop)]
-pub enum Answer {
-    Costs(u64),
-    TurnedAway(Refusal),
-}
-
-// The answer to `price`, for the rows and a count of places.
-pub(crate) fn answer_price(rows: &[u32], places: usize) -> Answer
-    ensures { result ≡ answer_to rows.now places }
-{
-    match quote(rows, places) {
-        Ok(price) => Answer::Costs(price),
-        Err(refusal) => Answer::TurnedAway(refusal),
-    }
-}
+#[derive(Clone, Copy, Debug, PartialEq, Eq)]
+pub struct Answer(pub Result<u64, Refusal>);
 
 // Why something is turned away, in one line with the actual numbers.
 #[derive(Clone, Copy)]
@@ -78,15 +64,15 @@ impl fmt::Display for Reason {
 }
 
 impl fmt::Display for Answer {
-    ghost output = { λ x. Some (shown_answer x) };
+    ghost output = { λ x. Some (shown_answer x.0) };
 
     fn fmt<W: fmt::Write>(&self, f: &mut fmt::Formatter<W>) -> fmt::Result {
-        match self {
-            Answer::Costs(price) => write!(f, "costs {price}"),
-            Answer::TurnedAway(refusal) => {
+        match self.0 {
+            Ok(price) => write!(f, "costs {price}"),
+            Err(refusal) => {
                 let number = refusal.number();
                 let place = refusal.place();
-                let reason = Reason(*refusal);
+                let reason = Reason(refusal);
                 write!(f, "turned away {number} at {place}: {reason}")
             }
         }

@@ -2,11 +2,13 @@
 #![tactic(auto)]
 
 mod answer;
+mod errors;
 mod reader;
 #[cfg(test)]
 mod tests;
 
 use answer::Answer;
+use errors::ReadError;
 use reader::read;
 use std::io::Read;
 
@@ -14,13 +16,14 @@ fn run(rt: &HostRuntime) -> anyhow::Result<()> {
     let heap = rt.alloc();
     let mut bytes = Vec::new(heap);
     rt.stdin().read_to_end(&mut bytes)?;
-    match read(heap, bytes.as_slice())? {
+    match read(heap, &bytes) {
         Ok(text) => {
-            for answer in text.answers.iter() {
-                rt.println(*answer)?;
+            for answer in &text.answers {
+                rt.println(answer)?;
             }
         }
-        Err(refusal) => rt.println(Answer::TurnedAway(refusal))?,
+        Err(ReadError::Refused(refusal)) => rt.println(Answer(Err(refusal)))?,
+        Err(ReadError::OutOfMemory(error)) => return Err(error.into()),
     }
     Ok(())
 }

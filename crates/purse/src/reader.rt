@@ -1,13 +1,17 @@
 // Reads a text of the statements `places` and `rows`, each with its numbers, and `price`; `#` starts a comment that ends with the line.
-ghost use Rattle.std.specs.Prelude.{◌≡◌, ◌<◌, IfOk, MatchResult};
+ghost use Rattle.std.specs.Prelude.{◌≡◌, true, false, Err, IfOk, IfErr, OnOk};
 ghost use Rattle.std.specs.Option.{SomeIff};
 ghost use Rattle.std.specs.Str.Parse.{digits_value};
-ghost use Rattle.program.specs.Refusal.{number_of};
-ghost use Rattle.purse.specs.Words.{Number, Takes, ByWords, Read};
+ghost use Rattle.purse.specs.Words.{Number, Takes, ByWords, Read, IsOfLine};
 
-use crate::answer::{Answer, answer_price};
+use crate::answer::Answer;
+use crate::errors::{ReadError, WordError};
+use pricing::quote;
 use program::Refusal;
-use std::alloc::{AllocError, Global};
+use std::alloc::Global;
+
+// What stands between words.
+const BLANKS: [char; 3] = [' ', '\t', '\r'];
 
 // The statement whose numbers come next.
 #[derive(Clone, Copy)]
@@ -30,75 +34,63 @@ pub(crate) struct Text {
 fn number(word: &str) -> Option<u32>
     ensures { SomeIff result (Number word.now) (digits_value 10 word.now) }
 {
-    let bytes = word.as_bytes();
-    if bytes.is_empty() {
+    // `parse` takes a plus before the digits too. Bytes are tested faster than characters here, once for each number.
+    if word.as_bytes().starts_with(b"+") {
         return None;
     }
-    if bytes[0] == b'+' {
-        return None;
-    }
-    match word.parse::<u32>() {
-        Ok(number) => Some(number),
-        Err(_) => None,
-    }
+    word.parse().ok()
 }
 
 impl Text {
-    // One word more: the name of a statement, which starts its numbers anew or is answered, or a number. False where it is neither.
-    fn take_word(&mut self, word: &str) -> Result<bool, AllocError>
-        ensures { IfOk result (λ fits. Takes word.now self.old self.new fits) }
+    // One word more: the name of a statement, which starts its numbers anew or is answered, or a number. One that is neither changes nothing.
+    fn take_word(&mut self, word: &str) -> Result<(), WordError>
+        ensures fits { OnOk result (Takes word.now self.old self.new true) }
+        ensures misfits { result ≡ Err WordError.Misfit → Takes word.now self.old self.new false }
     {
-        if word == "places" {
-            self.section = Section::Places;
-            self.places.clear();
-            return Ok(true);
+        match word {
+            "places" => {
+                self.section = Section::Places;
+                self.places.clear();
+            }
+            "rows" => {
+                self.section = Section::Rows;
+                self.rows.clear();
+            }
+            "price" => {
+                self.section = Section::Start;
+                let quoted = quote(&self.rows, self.places.len());
+                self.answers.push(Answer(quoted))?;
+            }
+            _ => {
+                let number = number(word).ok_or(WordError::Misfit)?;
+                match self.section {
+                    Section::Start => return Err(WordError::Misfit),
+                    Section::Places => self.places.push(number)?,
+                    Section::Rows => self.rows.push(number)?,
+                }
+            }
         }
-        if word == "rows" {
-            self.section = Section::Rows;
-            self.rows.clear();
-            return Ok(true);
-        }
-        if word == "price" {
-            self.section = Section::Start;
-            let answer = answer_price(self.rows.as_slice(), self.places.len());
-            self.answers.push(answer)?;
-            return Ok(true);
-        }
-        let Some(number) = number(word) else {
-            return Ok(false);
-        };
-        match self.section {
-            Section::Start => return Ok(false),
-            Section::Places => self.places.push(number)?,
-            Section::Rows => self.rows.push(number)?,
-        }
-        Ok(true)
+        Ok(())
     }
 
-    // The words of one line, up to a comment. False where one doesn't fit.
-    fn take_line(&mut self, line: &str) -> Result<bool, AllocError>
-        ensures { IfOk result (λ fits. ByWords self.old self.new fits) }
+    // The words of one line, up to a comment or to one that doesn't fit.
+    fn take_line(&mut self, line: &str) -> Result<(), WordError>
+        ensures fits { OnOk result (ByWords self.old self.new true) }
+        ensures misfits { result ≡ Err WordError.Misfit → ByWords self.old self.new false }
     {
-        let words = match line.split_once('#') {
-            Some((before, _)) => before,
-            None => line,
-        };
-        for word in words.split([' ', '\t', '\r']) {
-            if word.is_empty() {
-                continue;
-            }
-            let fits = self.take_word(word)?;
-            if !fits {
-                return Ok(false);
-            }
+        let statements = line.split_once('#').map_or(line, |(before, _)| before);
+        let words = statements.split(BLANKS).filter(|word| !word.is_empty());
+        for word in words {
+            self.take_word(word)?;
         }
-        Ok(true)
+        Ok(())
     }
 }
 
 // What the bytes say, or the first line that can't be read. Bytes that aren't UTF-8 become a character that no word has.
-pub(crate) fn read(heap: Global, bytes: &[u8]) -> Result<Result<Text, Refusal>, AllocError>
-    ensures { IfOk result (λ text. MatchResult text Read (λ refusal. number_of refusal ≡ 5)) }
+pub(crate) fn read(heap: Global, bytes: &[u8]) -> Result<Text, ReadError>
+    ensures read { IfOk result Read }
+    ensures refused { IfErr result IsOfLine }
 {
     let whole = String::from_utf8_lossy(heap, bytes)?;
     let mut text = Text {
@@ -108,10 +100,11 @@ pub(crate) fn read(heap: Global, bytes: &[u8]) -> Result<Result<Text, Refusal>, 
         section: Section::Start,
     };
     for (line, words) in whole.as_str().lines().enumerate() {
-        let fits = text.take_line(words)?;
-        if !fits {
-            return Ok(Err(Refusal::Unreadable { line }));
+        match text.take_line(words) {
+            Ok(()) => {}
+            Err(WordError::Misfit) => return Err(ReadError::Refused(Refusal::Unreadable { line })),
+            Err(WordError::OutOfMemory(error)) => return Err(error.into()),
         }
     }
-    Ok(Ok(text))
+    Ok(text)
 }

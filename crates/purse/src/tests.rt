@@ -1,8 +1,10 @@
 // Texts and the lines that answer them, worked by hand.
 use crate::answer::Answer;
+use crate::errors::ReadError;
 use crate::reader::read;
 use program::Refusal;
 use std::alloc::Global;
+use std::fmt::Write;
 use std::process::Abort;
 use std::test::Fail;
 
@@ -18,26 +20,19 @@ const UNREADABLE_2: &str =
 #[derive(Drop)]
 struct Case<'a>(&'a [u8], &'a str);
 
-// One line more.
-fn add_line(heap: Global, lines: &mut String, answer: Answer) -> Result<(), Fail> {
-    let line = answer.to_string(heap)?;
-    lines.push_str(line.as_str())?;
-    lines.push('\n')?;
-    Ok(())
-}
-
 fn check_texts(rt: &impl Abort, heap: Global, cases: &[Case]) -> Result<(), Fail> {
-    for case in cases.iter() {
+    for Case(text, want) in cases {
         let mut lines = String::new(heap);
-        match read(heap, case.0)? {
+        match read(heap, text) {
             Ok(text) => {
-                for answer in text.answers.iter() {
-                    add_line(heap, &mut lines, *answer)?;
+                for answer in &text.answers {
+                    writeln!(lines, "{answer}")?;
                 }
             }
-            Err(refusal) => add_line(heap, &mut lines, Answer::TurnedAway(refusal))?,
+            Err(ReadError::Refused(refusal)) => writeln!(lines, "{}", Answer(Err(refusal)))?,
+            Err(ReadError::OutOfMemory(error)) => return Err(error.into()),
         }
-        assert_eq!(rt; lines.as_str(), case.1);
+        assert_eq!(rt; lines.as_str(), *want);
     }
     Ok(())
 }
@@ -114,32 +109,32 @@ fn turned_away(rt: HostRuntime) -> Result<(), Fail> {
 #[test]
 fn reasons(rt: HostRuntime) -> Result<(), Fail> {
     let heap = rt.alloc();
-    let rows = Answer::TurnedAway(Refusal::TooManyRows {
-        count: 257,
-        limit: 256,
-    })
-    .to_string(heap)?;
-    assert_eq!(rt;
-        rows.as_str(),
-        "turned away 1 at 256: 257 rows, and a program has 256 at most"
-    );
-    let places = Answer::TurnedAway(Refusal::TooManyPlaces {
-        count: 1025,
-        limit: 1024,
-    })
-    .to_string(heap)?;
-    assert_eq!(rt;
-        places.as_str(),
-        "turned away 2 at 1024: 1025 places, and a program works on 1024 at most"
-    );
-    let room = Answer::TurnedAway(Refusal::RoomLength {
-        length: 4,
-        places: 3,
-    })
-    .to_string(heap)?;
-    assert_eq!(rt;
-        room.as_str(),
-        "turned away 4 at 4: the room is 4 long, and the count of places is 3"
-    );
+    let cases = [
+        (
+            Refusal::TooManyRows {
+                count: 257,
+                limit: 256,
+            },
+            "turned away 1 at 256: 257 rows, and a program has 256 at most",
+        ),
+        (
+            Refusal::TooManyPlaces {
+                count: 1025,
+                limit: 1024,
+            },
+            "turned away 2 at 1024: 1025 places, and a program works on 1024 at most",
+        ),
+        (
+            Refusal::RoomLength {
+                length: 4,
+                places: 3,
+            },
+            "turned away 4 at 4: the room is 4 long, and the count of places is 3",
+        ),
+    ];
+    for (refusal, want) in cases {
+        let line = Answer(Err(refusal)).to_string(heap)?;
+        assert_eq!(rt; line.as_str(), want);
+    }
     Ok(())
 }

@@ -4,6 +4,8 @@
 #[cfg(test)]
 mod dear;
 #[cfg(test)]
+mod doubled;
+#[cfg(test)]
 mod limits;
 #[cfg(test)]
 mod places;

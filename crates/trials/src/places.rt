@@ -2,36 +2,22 @@
 use program::{Refusal, validate};
 use std::process::Abort;
 
-// What is answered to a program and a count of places.
-#[derive(Clone, Copy, Drop)]
-enum Want {
-    Taken,
-    // The row that names a place that isn't there, and the place.
-    Missing(usize, usize),
-    TooMany,
-    // Refused by number 1.
-    Rows,
+// A program, a count of places, and the refusal, if there is one.
+#[derive(Drop)]
+struct Case<'a>(&'a [u32], usize, Option<Refusal>);
+
+// A row names a place that isn't among so many.
+fn missing(row: usize, place: usize, count: usize) -> Option<Refusal> {
+    Some(Refusal::NoSuchPlace { row, place, count })
 }
 
-#[derive(Drop)]
-struct Case<'a>(&'a [u32], usize, Want);
-
-fn meets(case: &Case) -> bool {
-    match (validate(case.0, case.1), case.2) {
-        (None, Want::Taken) => true,
-        (Some(Refusal::NoSuchPlace { row, place, count }), Want::Missing(r, p)) => {
-            row == r && place == p && count == case.1
-        }
-        (Some(Refusal::TooManyPlaces { count, limit }), Want::TooMany) => count == case.1
-            && limit == 1024,
-        (Some(refusal), Want::Rows) => refusal.number() == 1,
-        _ => false,
-    }
+fn too_many(count: usize) -> Option<Refusal> {
+    Some(Refusal::TooManyPlaces { count, limit: 1024 })
 }
 
 fn check_all(rt: &impl Abort, cases: &[Case]) {
     for case in cases.iter() {
-        assert!(rt; meets(case));
+        assert_eq!(rt; validate(case.0, case.1).err(), case.2);
     }
 }
 
@@ -40,23 +26,27 @@ fn at_the_edge(rt: HostRuntime) {
     check_all(
         &rt,
         &[
-            Case(&[1, 2, 0, 0], 3, Want::Taken),
-            Case(&[1, 3, 0, 0], 3, Want::Missing(0, 3)),
-            Case(&[1, 0, 0, 0], 0, Want::Missing(0, 0)),
-            Case(&[0, 9, 0, 0], 0, Want::Taken),
-            Case(&[0, 9, 0, 0, 5, 2, 0, 0], 3, Want::Taken),
-            Case(&[0, 9, 0, 0, 5, 3, 0, 0], 3, Want::Missing(1, 3)),
-            Case(&[1, 1023, 0, 0], 1024, Want::Taken),
-            Case(&[1, 1024, 0, 0], 1024, Want::Missing(0, 1024)),
-            Case(&[1, 1024, 0, 0], 1025, Want::TooMany),
-            Case(&[0, 0, 0, 0], 1025, Want::TooMany),
+            Case(&[1, 2, 0, 0], 3, None),
+            Case(&[1, 3, 0, 0], 3, missing(0, 3, 3)),
+            Case(&[1, 0, 0, 0], 0, missing(0, 0, 0)),
+            Case(&[0, 9, 0, 0], 0, None),
+            Case(&[0, 9, 0, 0, 5, 2, 0, 0], 3, None),
+            Case(&[0, 9, 0, 0, 5, 3, 0, 0], 3, missing(1, 3, 3)),
+            Case(&[1, 1023, 0, 0], 1024, None),
+            Case(&[1, 1024, 0, 0], 1024, missing(0, 1024, 1024)),
+            Case(&[1, 1024, 0, 0], 1025, too_many(1025)),
+            Case(&[0, 0, 0, 0], 1025, too_many(1025)),
             Case(
                 &[1, 4294967295, 0, 0],
                 4294967295,
-                Want::Missing(0, 4294967295),
+                missing(0, 4294967295, 4294967295),
             ),
-            Case(&[1, 4294967295, 0, 0], 4294967296, Want::TooMany),
-            Case(&[1, 4294967295, 0, 0], 18446744073709551615, Want::TooMany),
+            Case(&[1, 4294967295, 0, 0], 4294967296, too_many(4294967296)),
+            Case(
+                &[1, 4294967295, 0, 0],
+                18446744073709551615,
+                too_many(18446744073709551615),
+            ),
         ],
     );
 }
@@ -82,7 +72,7 @@ fn reached_by_each(rt: HostRuntime) {
     ];
     for last in last_rows.iter() {
         let numbers = [1, 9, 0, 0, 1, 0, 0, 0, last[0], last[1], last[2], last[3]];
-        assert!(rt; meets(&Case(&numbers, 1, Want::Missing(0, 9))));
+        assert_eq!(rt; validate(&numbers, 1).err(), missing(0, 9, 1));
     }
 }
 
@@ -92,12 +82,12 @@ fn not_reached(rt: HostRuntime) {
     check_all(
         &rt,
         &[
-            Case(&[1, 9, 0, 0, 0, 5, 0, 0], 1, Want::Taken),
-            Case(&[1, 9, 0, 0, 0, 0, 0, 0], 1, Want::Taken),
-            Case(&[1, 9, 0, 0, 1, 0, 0, 0, 2, 1, 1, 0], 1, Want::Taken),
-            Case(&[1, 9, 0, 0, 1, 0, 0, 0, 5, 0, 1, 0], 1, Want::Taken),
-            Case(&[1, 9, 0, 0, 1, 0, 0, 0, 8, 0, 1, 1], 1, Want::Taken),
-            Case(&[1, 9, 0, 0, 2, 0, 0, 0, 0, 3, 0, 0], 1, Want::Taken),
+            Case(&[1, 9, 0, 0, 0, 5, 0, 0], 1, None),
+            Case(&[1, 9, 0, 0, 0, 0, 0, 0], 1, None),
+            Case(&[1, 9, 0, 0, 1, 0, 0, 0, 2, 1, 1, 0], 1, None),
+            Case(&[1, 9, 0, 0, 1, 0, 0, 0, 5, 0, 1, 0], 1, None),
+            Case(&[1, 9, 0, 0, 1, 0, 0, 0, 8, 0, 1, 1], 1, None),
+            Case(&[1, 9, 0, 0, 2, 0, 0, 0, 0, 3, 0, 0], 1, None),
         ],
     );
 }
@@ -108,20 +98,24 @@ fn order(rt: HostRuntime) {
     check_all(
         &rt,
         &[
-            Case(
-                &[1, 9, 0, 0, 1, 8, 0, 0, 2, 0, 1, 0],
-                1,
-                Want::Missing(0, 9),
-            ),
+            Case(&[1, 9, 0, 0, 1, 8, 0, 0, 2, 0, 1, 0], 1, missing(0, 9, 1)),
             Case(
                 &[1, 7, 0, 0, 1, 9, 0, 0, 1, 8, 0, 0, 2, 2, 1, 0],
                 5,
-                Want::Missing(1, 9),
+                missing(1, 9, 5),
             ),
-            Case(&[1, 2000, 0, 0], 1025, Want::Missing(0, 2000)),
-            Case(&[1, 2000, 0, 0], 2001, Want::TooMany),
-            Case(&[], 1025, Want::Rows),
-            Case(&[9, 0, 0, 0], 1025, Want::Rows),
+            Case(&[1, 2000, 0, 0], 1025, missing(0, 2000, 1025)),
+            Case(&[1, 2000, 0, 0], 2001, too_many(2001)),
+            Case(&[], 1025, Some(Refusal::NoRows)),
+            Case(
+                &[9, 0, 0, 0],
+                1025,
+                Some(Refusal::UnknownKind {
+                    row: 0,
+                    kind: 9,
+                    limit: 8,
+                }),
+            ),
         ],
     );
 }

@@ -1,6 +1,6 @@
 // Prices of small programs, worked by hand, and the table of a larger one.
 use pricing::{Done, price, row_prices};
-use program::{ValidProgram, rows_refusal};
+use program::ValidProgram;
 use std::test::Fail;
 
 // The sum 1 + 2 + .. + place 0, but for ten numbers at most: the four numbers of each row, and what it costs.
@@ -24,10 +24,8 @@ const SUM: [[u32; 5]; 14] = [
 // The numbers of its rows.
 fn sum_rows() -> [u32; 56] {
     let mut numbers = [0; 56];
-    for row in 0..14usize {
-        for i in 0..4usize {
-            numbers[4 * row + i] = SUM[row][i];
-        }
+    for (numbers, row) in numbers.chunks_exact_mut(4).zip(SUM.iter()) {
+        numbers.copy_from_slice(&row[..4]);
     }
     numbers
 }
@@ -64,7 +62,7 @@ fn each_kind(rt: HostRuntime) {
         Case(&[0, 0, 0, 0, 2, 0, 0, 0, 8, 5, 0, 1], 22),
     ];
     for case in cases.iter() {
-        assert!(rt; matches!(price(case.0, &[7]), Done::Costs(n) if n == case.1));
+        assert_eq!(rt; price(case.0, &[7]), Done::Costs(case.1));
     }
 }
 
@@ -99,25 +97,23 @@ fn refused(rt: HostRuntime) {
     ];
     let places = [0; 1025];
     for case in cases.iter() {
-        let answer = price(case.0, &places[..case.1.min(1025)]);
-        assert!(rt; matches!(answer, Done::Refused(n) if n == case.2));
+        assert_eq!(rt;
+            price(case.0, &places[..case.1.min(1025)]),
+            Done::Refused(case.2)
+        );
     }
 }
 
 #[test]
 fn sum(rt: HostRuntime) -> Result<(), Fail> {
     let numbers = sum_rows();
-    assert!(rt; matches!(price(&numbers, &[4, 9, 0]), Done::Costs(105)));
-    assert!(rt; matches!(price(&numbers, &[4, 9]), Done::Refused(2)));
-    match rows_refusal(&numbers) {
-        Some(_) => Err(Fail::new("refused")),
-        None => {
-            let prices = row_prices(ValidProgram::new(&numbers));
-            for row in 0..14usize {
-                assert_eq!(rt; prices[row], SUM[row][4] as u64);
-            }
-            assert!(rt; prices[14] == 0 && prices[255] == 0);
-            Ok(())
-        }
+    assert_eq!(rt; price(&numbers, &[4, 9, 0]), Done::Costs(105));
+    assert_eq!(rt; price(&numbers, &[4, 9]), Done::Refused(2));
+    let program = ValidProgram::try_from(&numbers[..]).map_err(|_| Fail::new("refused"))?;
+    let prices = row_prices(program);
+    for (price, row) in prices.iter().zip(SUM.iter()) {
+        assert_eq!(rt; *price, u64::from(row[4]));
     }
+    assert_eq!(rt; (prices[14], prices[255]), (0, 0));
+    Ok(())
 }

@@ -1,19 +1,14 @@
-use Rattle.std.proofs.Common.{◌≡◌, ◌-◌, sym, ◌∙◌, arith}
+use Rattle.std.proofs.Common.{◌≡◌, ◌-◌, position, unwrap_or, zip, ap, ◌∙◌, arith, rules}
 use Rattle.program.specs.Rows.{row_count}
-use Rattle.pricing.specs.Refusals.{is_dear}
-use Rattle.pricing.proofs.Dearness.{shown_dear}
-use Rattle.pricing.proofs.Lowest.{lowest_is}
+use Rattle.program.proofs.Shape.{Shape, shape_of}
+use Rattle.pricing.specs.Refusals.{dear_pair}
+use Rattle.pricing.proofs.Dearness.{found_dear}
 use Rattle.pricing.proofs.quotes.dear_row.Goals as goal
-
-pub returns-then-is_dear : goal.returns-then-is_dear
-returns-then-is_dear c =
-    let xs = c.args.program.numbers.now in
-    let row = c.loop-row.row in
-    sym (lowest_is (is_dear xs) (row_count xs - 1) row (omega arith) c.loop-row.invariant
-    (λ _. sym (shown_dear xs (row_count xs) c.args.prices.now c.requires row (omega arith) _ (c.reached_rows-reached.ensures row)) ∙ sym c.if-is_dear.ensures))
 
 pub returns : goal.returns
 returns c =
     let xs = c.args.program.numbers.now in
-    let end : row_count xs - 1 ≡ c.last_row-last.result = omega arith in
-    sym (lowest_is (is_dear xs) (row_count xs - 1) c.last_row-last.result (omega arith) (λ j l. c.loop-row.invariant j (omega arith)) (λ l. absurd (omega arith)))
+    let s : Shape xs = shape_of xs c.args.program.shape in
+    let last : c.last_row.result ≡ row_count xs - 1 = omega arith in
+    let found = found_dear xs s c.reached_rows.result c.args.prices.now c.reached_rows.ensures c.requires (search rules) (search rules) in
+    c.unwrap_or.ensures ∙ ap (λ o. unwrap_or o c.last_row.result) c.first_dear.ensures ∙ ap (unwrap_or (position dear_pair (zip c.reached_rows.result c.args.prices.now))) last ∙ found

@@ -6,5 +6,5 @@ pub returns : goal.returns
 returns c =
     let xs = c.args.program.now in
     let s = c.args.places.now in
-    let says = price_says xs s c.quote.result c.answer.result c.quote.ensures c.answer.ensures in
-    record { says = says; numbers = says_numbers (refusal xs s) xs c.answer.result says }
+    let says = price_says xs s c.quote.result c.into.result c.quote.ensures c.into.ensures in
+    record { says = says; numbers = says_numbers (refusal xs s) xs c.into.result says }

@@ -1,34 +1,21 @@
-use Rattle.std.proofs.Common.{◌≡◌, ℕ, ◌+◌, ◌-◌, ◌<◌, Bool, true, false, List, set, replicate, sym, ap, ◌∙◌, subst, subst₂, arith}
-use Rattle.std.proofs.ByRecursion.{All-weaker}
-use Rattle.std.specs.List.{AllByRecursion}
+use Rattle.std.proofs.Common.{◌≡◌, ℕ, ◌-◌, true, false, set, replicate, sym, ap, ◌∙◌, subst, subst₂, arith}
 use Rattle.program.specs.Reach.{marked}
-use Rattle.program.specs.Row.{named}
 use Rattle.program.specs.Rows.{row_count}
-use Rattle.program.proofs.Marking.{Passed, none_passed, pass_unmarked, pass_marked, all_passed}
+use Rattle.program.proofs.Marking.{Passed, none_passed, pass_marked, all_passed}
 use Rattle.program.proofs.Validated.{valid_of}
 use Rattle.program.proofs.reach.reached_rows.Goals as goal
 
 pub loop-row-init : goal.loop-row-init
 loop-row-init c =
     let xs = c.args.program.numbers.now in
-    let end : row_count xs ≡ c.last_row-last.result + 1 = omega arith in
     let last : row_count xs - 1 ≡ c.last_row-last.result = omega arith in
-    subst (λ (t : List Bool). Passed xs (c.last_row-last.result + 1) (set t c.last_row-last.result true)) (sym c.unmarked-table.ensures)
-    (subst₂ (λ (n m : ℕ). Passed xs n (set (replicate 256 false) m true)) end last (none_passed xs (valid_of c.args.program)))
-
-pub mark-requires : goal.mark-requires
-mark-requires c =
-    subst (AllByRecursion (λ j. j < 256)) (sym c.named.ensures) (All-weaker (λ j. j < c.loop-row.row - 1) (λ j. j < 256) (λ j h. omega arith) (named c.row_at.result) c.row_at.ensures.earlier)
+    subst₂ (λ (n m : ℕ). Passed xs n (set (replicate 256 false) m true)) (sym c.row_count-row.ensures) last (none_passed xs (valid_of c.args.program))
 
 pub loop-row-preserved-then-table-row : goal.loop-row-preserved-then-table-row
 loop-row-preserved-then-table-row c =
     let xs = c.args.program.numbers.now in
     subst (Passed xs (c.loop-row.row - 1)) (sym (c.mark.ensures ∙ ap (marked c.loop-row.table) c.named.ensures))
     (pass_marked xs (valid_of c.args.program) c.loop-row.row c.loop-row.table c.loop-row-test.true c.loop-row.invariant c.row_at.result (omega arith) c.if-table-row.true c.row_at.ensures.row c.row_at.ensures.earlier)
-
-pub loop-row-preserved : goal.loop-row-preserved
-loop-row-preserved c =
-    pass_unmarked c.args.program.numbers.now (valid_of c.args.program) c.loop-row.row c.loop-row.table c.loop-row-test.true c.loop-row.invariant c.if-table-row.false
 
 pub returns : goal.returns
 returns c =

@@ -1,17 +1,16 @@
-use Rattle.std.proofs.Common.{subst}
-use Rattle.purse.specs.Words.{ByWords}
+use Rattle.std.proofs.Common.{Err, sym, ap, ◌∙◌}
+use Rattle.std.proofs.lemmas.Result.{err_from_is_err_and}
 use Rattle.purse.proofs.Words.{by_no_words, by_one_more}
 use Rattle.purse.proofs.reader.Text.take_line.Goals as goal
 
 pub loop-word-init : goal.loop-word-init
 loop-word-init c = by_no_words _
 
-pub returns-then-not-fits : goal.returns-then-not-fits
-returns-then-not-fits c =
-    subst (ByWords c.args.self.now c.take_word.new.self) c.if-not-fits.true
-    (by_one_more c.args.self.now c.loop-word.self c.take_word.new.self _ c.in_ok-fits.fits c.loop-word.invariant c.in_ok-fits.ensures)
-
 pub loop-word-preserved : goal.loop-word-preserved
-loop-word-preserved c =
-    subst (ByWords c.args.self.now c.take_word.new.self) c.if-not-fits.false
-    (by_one_more c.args.self.now c.loop-word.self c.take_word.new.self _ c.in_ok-fits.fits c.loop-word.invariant c.in_ok-fits.ensures)
+loop-word-preserved c = by_one_more c.loop-word.invariant c.in_ok-take_word.ensures.fits
+
+pub returns-in_err-take_word-clause-misfits : goal.returns-in_err-take_word-clause-misfits
+returns-in_err-take_word-clause-misfits c e =
+    let p = err_from_is_err_and c.from_residual.result c.from_residual.ensures.1 in
+    let same = c.in_err-take_word.was ∙ (ap Err (sym p.2) ∙ (sym p.1 ∙ e)) in
+    by_one_more c.loop-word.invariant (c.take_word.ensures.misfits same)

@@ -1,6 +1,6 @@
 use Rattle.std.proofs.Common.{◌≡◌, None}
 use Rattle.program.specs.Validation.{first_said, row_refusal}
-use Rattle.program.proofs.validation.scan_refusal.Given as goal
+use Rattle.program.proofs.validation.check_rows.Given as goal
 
 -- nothing is said of the rows so far
 abbrev pub invariant-loop-row : goal.invariant-loop-row
