@@ -31,7 +31,7 @@ impl<'a> Runner<'a> {
         Some(())
     }
 
-    // The number at a place.
+    // The number at a place. What a call answers is known to be a u32; of a place that is read in `run_row` itself the check doesn't know that.
     fn number_at(&self, place: usize) -> u32
         requires { place < length self.now.places.now }
         ensures { result ≡ slice_index self.now.places.now place }

@@ -42,3 +42,6 @@ priced_more xs i t r price h l known is j =
     ∙ ap (λ k. capped (at_most (at_row xs k))) (sym e) ∙ sym (cond-true (ltb j (i + 1)) _ 0 (lt-ltb j (i + 1) (omega arith))))
     (λ ne. get_or-set_other t i j price 0 ne ∙ h j ∙ ap (λ b. cond b (capped (at_most (at_row xs j))) 0) (same_side i j ne))
     (cases_eq j i)
+
+-- the table before the pass, and that no price in it is above the cap
+pub ruleset passes = (none_priced, below_cap)

@@ -12,7 +12,7 @@ pub enum Done {
     Came(u64, u64),
     // The purse was too small.
     Small,
-    // Turned away by the refusal of that number.
+    // Turned away by the refusal of that number: the rules' answer is the number alone.
     Refused(u64),
 }
 

@@ -9,7 +9,7 @@ use crate::limits::PRICE_CAP;
 use program::limits::MAX_ROWS;
 use program::{Row, ValidProgram};
 
-// A price for each row that a program may have.
+// A price for each row that a program may have: of fixed size, as nothing is allocated for a price.
 pub type Prices = [u64; MAX_ROWS];
 
 // A price, or the cap where it is higher.
@@ -54,7 +54,9 @@ fn row_price(prices: &Prices, row: Row) -> u64
     }
 }
 
-// The price of each row, or the cap where it is higher. What a row names is earlier, so one pass does, up to the last row, whose number is below 256.
+// The price of each row, or the cap where it is higher. What a row names is earlier, so one pass does. It goes by number, since a row's price is made
+// from those before it in the same table.
+#[tactic(auto, using(crate::proofs::Tabling::passes))]
 pub fn row_prices(program: ValidProgram) -> Prices
     ensures { Priced program.entry.numbers.now (row_count program.entry.numbers.now) result }
 {

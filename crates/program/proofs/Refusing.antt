@@ -137,3 +137,6 @@ unrefused_valid xs e = taken_valid xs (not-false (rows_taken xs) (sym (rows_refu
 
 pub valid_unrefused : (xs : List ℕ) → Valid xs → rows_refusal xs ≡ None
 valid_unrefused xs v = none_if (rows_refusal xs) (rows_refusal_some xs ∙ ap not (valid_taken xs v))
+
+-- how a scan goes on
+pub ruleset scans = (said_none, refused_here, taken_here)

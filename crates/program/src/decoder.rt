@@ -1,5 +1,5 @@
 // How validated programs are made, and how their rows are read.
-ghost use Rattle.std.specs.Prelude.{◌≡◌, ◌<◌, None};
+ghost use Rattle.std.specs.Prelude.{◌≡◌, ◌<◌, ◌≤◌, None};
 ghost use Rattle.program.specs.Rows.{row_count};
 ghost use Rattle.program.specs.Reads.{Reads, Last, RowFits, FitsReads};
 ghost use Rattle.program.specs.Validation.{rows_refusal, program_refusal};
@@ -18,21 +18,23 @@ impl<'a> ValidProgram<'a> {
         ValidProgram { numbers }
     }
 
-    // How many rows it has.
+    // How many rows it has: 1 to 256.
     pub fn row_count(self) -> usize
-        ensures { result ≡ row_count self.entry.numbers.now }
+        ensures count { result ≡ row_count self.entry.numbers.now }
+        ensures some { 1 ≤ result }
+        ensures few { result ≤ 256 }
     {
         self.numbers.len() / ROW_LENGTH
     }
 
-    // The number of its last row, which is the program; there are 1 to 256 rows.
+    // The number of its last row, which is the program.
     pub fn last_row(self) -> usize
         ensures { Last self.entry.numbers.now result }
     {
         self.row_count() - 1
     }
 
-    // The row of that number. What it names is earlier.
+    // The row of that number, which the caller knows to be there as it knows an index to be. What it names is earlier.
     pub fn row_at(self, row: usize) -> Row
         requires { row < row_count self.numbers.now }
         ensures { Reads self.entry.numbers.now row result }
@@ -52,7 +54,7 @@ impl<'a> FittingProgram<'a> {
         FittingProgram { program, places }
     }
 
-    // The row of that number, where its program fits: so do the programs at the rows that it names, and the place that it names is there.
+    // The same of a row whose program fits, with more known: so do the programs at the rows that it names, and the place that it names is there.
     pub fn row_at(self, row: usize) -> Row
         requires { RowFits self.program.numbers.now self.places row }
         ensures { FitsReads self.entry.program.numbers.now self.entry.places row result }

@@ -8,7 +8,7 @@ use crate::limits::MAX_ROWS;
 use crate::row::Named;
 use crate::valid::ValidProgram;
 
-// A flag for each row that a program may have.
+// A flag for each row that a program may have: of fixed size, as nothing is allocated for a price.
 pub type Table = [bool; MAX_ROWS];
 
 // Marks the rows that a row names.
@@ -31,7 +31,8 @@ fn mark(table: &mut Table, rows: Named)
     }
 }
 
-// The rows that the last row reaches: a row is marked by those that name it, which all come after it.
+// The rows that the last row reaches: a row is marked by those that name it, which all come after it. The pass goes by number, since it marks rows of
+// the table that it has still to come to.
 pub fn reached_rows(program: ValidProgram) -> Table
     ensures { (k : ℕ) → slice_index_or result k false ≡ reached program.entry.numbers.now k }
 {

@@ -55,7 +55,7 @@ pub enum Refusal {
 }
 
 impl Refusal {
-    // The number that it is said by, 1 to 5.
+    // The number that it is said by, 1 to 5: the rules say refusals by number.
     pub fn number(self) -> u64
         ensures { result ≡ number_of self }
     {
@@ -87,6 +87,7 @@ impl Refusal {
             Refusal::RoomLength { length, .. } => length,
             Refusal::Unreadable { line } => line,
         };
+        // From usize to u64 there is no `From`.
         place as u64
     }
 }

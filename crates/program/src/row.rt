@@ -57,7 +57,7 @@ pub enum Row {
     },
 }
 
-// The rows that a row names, in the order in which it names them. An array of options was tried: prices then take four tenths longer.
+// The rows that a row names, in the order in which it names them. An array of options was tried, and prices took four tenths longer.
 #[derive(Clone, Copy, Debug, PartialEq, Eq)]
 pub(crate) enum Named {
     Nothing,
@@ -67,7 +67,7 @@ pub(crate) enum Named {
 }
 
 impl Row {
-    // The row of that number, of a kind that there is.
+    // The row of that number, of a kind that there is. The numbers of the kinds are the rules', and stand here alone.
     #[tactic(auto, unfolding(crate::specs::Row::decoded))]
     pub(crate) fn decode(numbers: &[u32], row: usize) -> Row
         requires there { 4 * row + 4 ≤ length numbers.now }
@@ -77,6 +77,7 @@ impl Row {
         let at = ROW_LENGTH * row;
         let kind = numbers[at];
         let a = numbers[at + 1];
+        // From u32 to usize there is no `From`.
         let p = a as usize;
         let q = numbers[at + 2] as usize;
         let r = numbers[at + 3] as usize;

@@ -65,6 +65,7 @@ fn check_kind(row: usize, kind: u32) -> Result<(), Refusal>
 }
 
 // One row by itself: its kind, and that the rows it names are earlier.
+#[tactic(auto, using(crate::proofs::Unless::unless_ok, crate::proofs::Unless::unless_err, crate::proofs::Refusing::row_refusal_named), unfolding(crate::specs::Validation::row_refusal))]
 fn check_row(numbers: &[u32], row: usize) -> Result<(), Refusal>
     requires { 4 * row + 4 ≤ length numbers.now }
     ensures { result ≡ unless (row_refusal numbers.now row) tt }
@@ -76,7 +77,8 @@ fn check_row(numbers: &[u32], row: usize) -> Result<(), Refusal>
     }
 }
 
-// So many rows from row 0 up: the lowest wrong one is refused.
+// So many rows from row 0 up, each known by its number: the lowest wrong one is refused.
+#[tactic(auto, using(crate::proofs::Refusing::scans))]
 fn check_rows(numbers: &[u32], rows: usize) -> Result<(), Refusal>
     requires { 4 * rows ≤ length numbers.now }
     ensures { result ≡ unless (first_said (row_refusal numbers.now) rows) tt }
@@ -119,6 +121,7 @@ fn check_marked(
 }
 
 // The places that reached rows name by themselves are there: the lowest row that names another is refused.
+#[tactic(auto, using(crate::proofs::Refusing::scans, crate::proofs::Placing::said_by_flag, std::proofs::lemmas::Grind::common_steps))]
 fn check_reached(program: ValidProgram, places: usize) -> Result<(), Refusal>
     ensures { result ≡ unless (first_said (row_place_refusal program.entry.numbers.now places) (row_count program.entry.numbers.now)) tt }
 {

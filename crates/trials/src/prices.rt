@@ -4,28 +4,28 @@ use program::ValidProgram;
 use std::test::Fail;
 
 // The sum 1 + 2 + .. + place 0, but for ten numbers at most: the four numbers of each row, and what it costs.
-const SUM: [[u32; 5]; 14] = [
-    [0, 0, 0, 0, 1],
-    [5, 1, 0, 0, 2],
-    [1, 0, 0, 0, 1],
-    [1, 2, 0, 0, 1],
-    [0, 1, 0, 0, 1],
-    [2, 3, 4, 0, 3],
-    [5, 2, 5, 0, 4],
-    [1, 1, 0, 0, 1],
-    [1, 2, 0, 0, 1],
-    [2, 7, 8, 0, 3],
-    [5, 1, 9, 0, 4],
-    [6, 6, 10, 0, 9],
-    [8, 10, 2, 11, 102],
-    [6, 1, 12, 0, 105],
+const SUM: [([u32; 4], u64); 14] = [
+    ([0, 0, 0, 0], 1),
+    ([5, 1, 0, 0], 2),
+    ([1, 0, 0, 0], 1),
+    ([1, 2, 0, 0], 1),
+    ([0, 1, 0, 0], 1),
+    ([2, 3, 4, 0], 3),
+    ([5, 2, 5, 0], 4),
+    ([1, 1, 0, 0], 1),
+    ([1, 2, 0, 0], 1),
+    ([2, 7, 8, 0], 3),
+    ([5, 1, 9, 0], 4),
+    ([6, 6, 10, 0], 9),
+    ([8, 10, 2, 11], 102),
+    ([6, 1, 12, 0], 105),
 ];
 
 // The numbers of its rows.
 fn sum_rows() -> [u32; 56] {
     let mut numbers = [0; 56];
-    for (numbers, row) in numbers.chunks_exact_mut(4).zip(SUM.iter()) {
-        numbers.copy_from_slice(&row[..4]);
+    for (numbers, (row, _)) in numbers.chunks_exact_mut(4).zip(SUM.iter()) {
+        numbers.copy_from_slice(row);
     }
     numbers
 }
@@ -111,8 +111,8 @@ fn sum(rt: HostRuntime) -> Result<(), Fail> {
     assert_eq!(rt; price(&numbers, &[4, 9]), Done::Refused(2));
     let program = ValidProgram::try_from(&numbers[..]).map_err(|_| Fail::new("refused"))?;
     let prices = row_prices(program);
-    for (price, row) in prices.iter().zip(SUM.iter()) {
-        assert_eq!(rt; *price, u64::from(row[4]));
+    for (price, (_, cost)) in prices.iter().zip(SUM.iter()) {
+        assert_eq!(rt; price, cost);
     }
     assert_eq!(rt; (prices[14], prices[255]), (0, 0));
     Ok(())

@@ -9,7 +9,7 @@ pub loop-row-init : goal.loop-row-init
 loop-row-init c =
     let xs = c.args.program.numbers.now in
     let last : row_count xs - 1 ≡ c.last_row-last.result = omega arith in
-    subst₂ (λ (n m : ℕ). Passed xs n (set (replicate 256 false) m true)) (sym c.row_count-row.ensures) last (none_passed xs (valid_of c.args.program))
+    subst₂ (λ (n m : ℕ). Passed xs n (set (replicate 256 false) m true)) (sym c.row_count-row.ensures.count) last (none_passed xs (valid_of c.args.program))
 
 pub loop-row-preserved-then-table-row : goal.loop-row-preserved-then-table-row
 loop-row-preserved-then-table-row c =
