@@ -1,5 +1,5 @@
 -- From the first refusal and the end of a run to what the entries answer. Assumes nothing.
-use Rattle.std.proofs.Common.{◌≡◌, ℕ, zero, suc, Ok, Bool, true, false, cond, eqb, List, length, Some, None, Option, Result, IsSome, ok_or, sym, rules, refl, ap, ◌∙◌, inl, inr, arith}
+use Rattle.std.proofs.Common.{◌≡◌, ℕ, zero, suc, Bool, true, false, cond, eqb, List, length, Some, None, Option, Result, IsSome, ok_or, sym, rules, refl, ap, ◌∙◌, inl, inr, arith}
 use Rattle.std.proofs.lemmas.Bool.{cond-false, ne_eqb}
 use Rattle.std.specs.Option.{option_or}
 use Rattle.semantics.specs.Program.{Program, Places}
@@ -11,8 +11,6 @@ use Rattle.program.specs.Rows.{program_in}
 use Rattle.program.specs.Validation.{answered}
 use Rattle.program.specs.declared.refusal.Refusal.{Refusal}
 use Rattle.program.specs.declared.refusal.Refusal.TheVariants.{RoomLength}
-use Rattle.program.specs.Validation.{unless}
-use Rattle.program.proofs.Unless.{unless_ok}
 use Rattle.pricing.specs.Refusals.{first_refusal}
 use Rattle.pricing.specs.Answers.{refused_by, values}
 use Rattle.pricing.specs.declared.done.Done.{Done}
@@ -26,10 +24,9 @@ use Rattle.interpreter.specs.declared.ran.RunError.{RunError}
 use Rattle.interpreter.specs.declared.ran.RunError.TheVariants.{TooSmall}
 
 -- a purse of the price isn't too small
-pub not_small : (f : Option Refusal) (p : Program) (t : Places) (g : ℕ) (s : List ℕ) (d : Option Ran) (s₁ : List ℕ) → Ok g ≡ unless f (at_most p) → Ends (run p t g) s (ok_or d TooSmall) s₁ → IsSome d
-not_small f p t g s (Some d) s₁ h ends = search rules
-not_small f p t g s None s₁ h ends =
-    let (_, price) = unless_ok f (at_most p) g (sym h) in
+pub not_small : (p : Program) (t : Places) (g : ℕ) (s : List ℕ) (d : Option Ran) (s₁ : List ℕ) → g ≡ at_most p → Ends (run p t g) s (ok_or d TooSmall) s₁ → IsSome d
+not_small p t g s (Some d) s₁ price ends = search rules
+not_small p t g s None s₁ price ends =
     let (x, u, k, is, _) = enough p t g (omega arith) in
     let came_to = (rw is at ends).0 in
     cc

@@ -1,11 +1,8 @@
 -- Which refusal a run gets: the first that applies, 1 the rows, 2 the places, 3 the price, 4 the room. Assumes nothing.
-use Rattle.std.specs.Prelude.{ℕ, cond, List, length, Some, None, Option, Result, ◌==◌}
+use Rattle.std.specs.Prelude.{ℕ, cond, List, length, Some, None, Option, ◌==◌}
 use Rattle.std.specs.Option.{option_or}
-use Rattle.semantics.specs.Price.{at_most}
-use Rattle.program.specs.Rows.{program_in}
 use Rattle.program.specs.declared.refusal.Refusal.{Refusal}
 use Rattle.program.specs.declared.refusal.Refusal.TheVariants.{RoomLength}
-use Rattle.program.specs.Validation.{unless}
 use Rattle.pricing.specs.Refusals.{refusal, first_refusal}
 
 -- the number of the first refusal that applies: that of a price, or else 4 for a room of another length than the places; 0 where none applies
@@ -19,7 +16,3 @@ room_refusal m n = cond (m == n) None (Some (RoomLength m n))
 -- the first refusal of a program in rows, so many places and a room so long
 abbrev pub first_run_refusal : List ℕ → (places room : ℕ) → Option Refusal
 first_run_refusal xs n m = option_or (first_refusal xs n) (room_refusal m n)
-
--- the price of a program that may be run, or that refusal
-abbrev pub admitted : List ℕ → (places room : ℕ) → Result ℕ Refusal
-admitted xs n m = unless (first_run_refusal xs n m) (at_most (program_in xs))

@@ -1,4 +1,4 @@
-// The entries: a program in numbers run on lent places, on a purse.
+// The entries: a program in numbers run on lent places, on a purse. Each slice is lent by itself, since a caller has them apart.
 ghost use Rattle.std.specs.Prelude.{◌≡◌, length, ok_or};
 ghost use Rattle.semantics.specs.Run.{run};
 ghost use Rattle.program.specs.Rows.{program_in};
@@ -52,18 +52,16 @@ pub fn execute(
 ) -> Result<Ran, RunError>
     ensures { Executes (first_run_refusal program.now (length places.old) (length room.old)) program.now places.old room.old purse result places.new room.new }
 {
-    admit(program, places.len(), room.len())?;
-    let fitting = FittingProgram::new(program, places.len());
-    run_saved(fitting, places, room, purse).ok_or(RunError::TooSmall)
+    let admitted = admit(program, places.len(), room.len())?;
+    run_saved(admitted.program, places, room, purse).ok_or(RunError::TooSmall)
 }
 
 // Runs a program on the places, on a purse of just its price, which is always enough.
 pub fn run_at_price(program: &[u32], places: &mut [u32], room: &mut [u32]) -> Result<Ran, Refusal>
     ensures { RunsAtPrice (first_run_refusal program.now (length places.old) (length room.old)) program.now places.old room.old result places.new room.new }
 {
-    let price = admit(program, places.len(), room.len())?;
-    let fitting = FittingProgram::new(program, places.len());
-    Ok(run_saved(fitting, places, room, price).unwrap())
+    let admitted = admit(program, places.len(), room.len())?;
+    Ok(run_saved(admitted.program, places, room, admitted.price).unwrap())
 }
 
 // Runs a program on the places, on a purse. It answers what the program came to and what is left, that the purse was too small, or the number of the

@@ -43,7 +43,7 @@ impl From<RunError> for Done {
 
     fn from(error: RunError) -> Done {
         match error {
-            RunError::Refused(refusal) => Done::Refused(refusal.number()),
+            RunError::Refused(refusal) => refusal.into(),
             RunError::TooSmall => Done::Small,
         }
     }

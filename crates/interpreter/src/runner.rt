@@ -11,7 +11,8 @@ use program::{FittingProgram, Row};
 // What each step costs.
 const STEP: u64 = 1;
 
-// A program, the places that it runs on, as many as it fits, and the purse that it pays from.
+// A program, the places that it runs on, as many as it fits, and the purse that it pays from. Each method says that the program stays, and which places
+// are lent: there is no type that would say it of what a `&mut self` leaves.
 #[derive(Drop)]
 pub(crate) struct Runner<'a> {
     pub(crate) program: FittingProgram<'a>,
@@ -21,7 +22,7 @@ pub(crate) struct Runner<'a> {
 }
 
 impl<'a> Runner<'a> {
-    // Pays for one step; `None` where the purse is too small for it.
+    // Pays for one step; `None` where the purse is too small for it, and there is nothing to say where it isn't.
     fn pay(&mut self) -> Option<()>
         ensures places { self.new.places ≡ self.old.places }
         ensures program { self.new.program ≡ self.old.program }

@@ -1,5 +1,5 @@
 // What an entry answers.
-ghost use Rattle.std.specs.Prelude.{◌≡◌};
+ghost use Rattle.std.specs.Prelude.{◌≡◌, Err};
 ghost use Rattle.pricing.specs.Answers.{answer_by};
 
 use program::Refusal;
@@ -16,6 +16,15 @@ pub enum Done {
     Refused(u64),
 }
 
+// A refusal by its number.
+impl From<Refusal> for Done {
+    ghost from_gives = { λ refusal answer. answer ≡ answer_by (Err refusal) };
+
+    fn from(refusal: Refusal) -> Done {
+        Done::Refused(refusal.number())
+    }
+}
+
 // What is quoted, with a refusal by its number.
 impl From<Result<u64, Refusal>> for Done {
     ghost from_gives = { λ quoted answer. answer ≡ answer_by quoted };
@@ -23,7 +32,7 @@ impl From<Result<u64, Refusal>> for Done {
     fn from(quoted: Result<u64, Refusal>) -> Done {
         match quoted {
             Ok(price) => Done::Costs(price),
-            Err(refusal) => Done::Refused(refusal.number()),
+            Err(refusal) => refusal.into(),
         }
     }
 }

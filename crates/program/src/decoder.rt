@@ -44,7 +44,7 @@ impl<'a> ValidProgram<'a> {
 }
 
 impl<'a> FittingProgram<'a> {
-    // The program of numbers and a count of places that `validate` takes.
+    // The same of numbers and a count of places that `validate` takes, with more asked and more known.
     pub fn new(numbers: &'a [u32], places: usize) -> FittingProgram<'a>
         requires { program_refusal numbers.now places ≡ None }
         ensures same { result.program.numbers.now ≡ numbers.now }

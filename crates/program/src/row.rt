@@ -58,7 +58,7 @@ pub enum Row {
 }
 
 // The rows that a row names, in the order in which it names them. An array of options was tried, and prices took four tenths longer.
-#[derive(Clone, Copy, Debug, PartialEq, Eq)]
+#[derive(Clone, Copy)]
 pub(crate) enum Named {
     Nothing,
     One(usize),
@@ -67,7 +67,16 @@ pub(crate) enum Named {
 }
 
 impl Row {
-    // The row of that number, of a kind that there is. The numbers of the kinds are the rules', and stand here alone.
+    // The kind of the row of that number.
+    pub(crate) fn kind(numbers: &[u32], row: usize) -> u32
+        requires { 4 * row + 4 ≤ length numbers.now }
+        ensures { result ≡ kind numbers.now row }
+    {
+        numbers[ROW_LENGTH * row]
+    }
+
+    // The row of that number, of a kind that there is. The numbers of the kinds are the rules', and stand here alone. With a `Result` for other kinds,
+    // which was tried, prices take a seventh more instructions.
     #[tactic(auto, unfolding(crate::specs::Row::decoded))]
     pub(crate) fn decode(numbers: &[u32], row: usize) -> Row
         requires there { 4 * row + 4 ≤ length numbers.now }

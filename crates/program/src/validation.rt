@@ -70,14 +70,14 @@ fn check_row(numbers: &[u32], row: usize) -> Result<(), Refusal>
     requires { 4 * row + 4 ≤ length numbers.now }
     ensures { result ≡ unless (row_refusal numbers.now row) tt }
 {
-    check_kind(row, numbers[ROW_LENGTH * row])?;
+    check_kind(row, Row::kind(numbers, row))?;
     match first_not_earlier(row, Row::decode(numbers, row).named()) {
         Some(named) => Err(Refusal::NotEarlier { row, named }),
         None => Ok(()),
     }
 }
 
-// So many rows from row 0 up, each known by its number: the lowest wrong one is refused.
+// So many rows from row 0 up: the lowest wrong one is refused. A row is known by its number, and where its numbers stand only `Row` knows.
 #[tactic(auto, using(crate::proofs::Refusing::scans))]
 fn check_rows(numbers: &[u32], rows: usize) -> Result<(), Refusal>
     requires { 4 * rows ≤ length numbers.now }
@@ -103,7 +103,7 @@ fn check_place(row: usize, place: Option<usize>, places: usize) -> Result<(), Re
     }
 }
 
-// The place that a row names by itself is there, if the row is marked as reached.
+// The place that a row names by itself is there, if the row is marked as reached. (A flag in the table is all that is known of that.)
 fn check_marked(
     program: ValidProgram,
     marked: bool,

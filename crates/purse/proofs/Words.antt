@@ -1,5 +1,7 @@
 -- Words one after another. Assumes nothing.
-use Rattle.std.proofs.Common.{ℕ, Bool, true, List, [], ◌∷◌, ◌++◌, append_assoc, append-nil}
+use Rattle.std.proofs.Common.{◌≡◌, ℕ, Bool, true, Ok, Err, Result, OnOk, List, [], ◌∷◌, ◌++◌, append_assoc, append-nil}
+use Rattle.std.proofs.lemmas.Bool.{false≢true}
+use Rattle.std.specs.Result.{is_ok}
 use Rattle.purse.specs.Words.{TakesEach, takes_none, takes_next, Takes, ByWords}
 use Rattle.purse.specs.declared.reader.Text.{Text}
 
@@ -16,3 +18,8 @@ by_more_words h k = (h.0 ++ k.0, takes_on h.0 h.1 k.1)
 
 pub by_one_more : {s t u : Text} {w : List ℕ} {fits : Bool} → ByWords s t true → Takes w t u fits → ByWords s u fits
 by_one_more {t = t} {u} {w} {fits} h k = (h.0 ++ w ∷ [], takes_next h.0 t w u fits h.1 k)
+
+-- what holds where a call succeeds, of one that did
+pub of_ok : {T E P : Type 0} (r : Result T E) → is_ok r ≡ true → OnOk r P → P
+of_ok (Ok x) e p = p
+of_ok (Err x) e p = absurd (false≢true e)

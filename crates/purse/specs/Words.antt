@@ -1,11 +1,7 @@
 -- What one word of a text does. Assumes nothing.
 use Rattle.std.specs.Prelude.{◌≡◌, ℕ, ◌^◌, ◌<◌, Bool, true, false, List, [], ◌∷◌, ◌++◌, length, vec_items, vec_len, codes, ◌≢◌}
-use Rattle.std.specs.Bool.{⊤}
 use Rattle.std.specs.Str.Parse.{AllDigits, digits_value}
-use Rattle.program.specs.declared.refusal.Refusal.TheVariants.{Unreadable}
 use Rattle.purse.specs.Answers.{answer_to}
-use Rattle.purse.specs.declared.errors.ReadError.{ReadError}
-use Rattle.purse.specs.declared.errors.ReadError.TheVariants.{Refused, OutOfMemory}
 use Rattle.purse.specs.declared.reader.Section.TheVariants.{Start, Places, Rows}
 use Rattle.purse.specs.declared.reader.Text.{Text}
 
@@ -42,8 +38,3 @@ pub record Read (t : Text) : Type 0 where
   pub no_rows : vec_items start.rows ≡ []
   pub no_answers : vec_items start.answers ≡ []
   pub words : ByWords start t true
-
--- a refusal of a text is that one of its lines can't be read
-abbrev pub IsOfLine : ReadError → Type 0
-IsOfLine (Refused r) = (line : ℕ) × (r ≡ Unreadable line)
-IsOfLine (OutOfMemory error) = ⊤

@@ -52,7 +52,7 @@ impl fmt::Display for Reason {
                 "the room is {length} long, and the count of places is {places}"
             ),
             Refusal::Unreadable { line } => {
-                // People count lines from 1, and the last line's number may be the largest.
+                // People count lines from 1, and the last line's number may be the largest. From usize to u128 there is no `From`.
                 let counted = line as u128 + 1;
                 write!(
                     f,

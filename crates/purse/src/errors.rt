@@ -1,7 +1,6 @@
 // Why a word of a text isn't taken, and why a text isn't read.
 ghost use Rattle.std.specs.Prelude.{◌≡◌, alloc_error};
 
-use program::Refusal;
 use std::alloc::{AllocError, AllocFailed};
 
 // A word that doesn't fit where it stands, or no memory for what it says.
@@ -21,10 +20,10 @@ impl<T: Drop> From<AllocFailed<T>> for WordError {
     }
 }
 
-// A refusal, which answers the text, or no memory for what it says.
+// A line, counted from 0, that has a word which doesn't fit, or no memory for what the text says.
 #[derive(Clone, Copy, Debug, PartialEq, Eq)]
 pub(crate) enum ReadError {
-    Refused(Refusal),
+    Unreadable { line: usize },
     OutOfMemory(AllocError),
 }
 
@@ -35,5 +34,18 @@ impl From<AllocError> for ReadError {
 
     fn from(error: AllocError) -> ReadError {
         ReadError::OutOfMemory(error)
+    }
+}
+
+impl WordError {
+    // The same of the line that the word stands in.
+    pub(crate) fn at(self, line: usize) -> ReadError
+        ensures misfit { self ≡ WordError.Misfit → result ≡ ReadError.Unreadable line }
+        ensures memory { (error : _) → self ≡ WordError.OutOfMemory error → result ≡ ReadError.OutOfMemory error }
+    {
+        match self {
+            WordError::Misfit => ReadError::Unreadable { line },
+            WordError::OutOfMemory(error) => ReadError::OutOfMemory(error),
+        }
     }
 }

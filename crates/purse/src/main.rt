@@ -9,6 +9,7 @@ mod tests;
 
 use answer::Answer;
 use errors::ReadError;
+use program::Refusal;
 use reader::read;
 use std::io::Read;
 
@@ -16,18 +17,22 @@ fn run(rt: &HostRuntime) -> anyhow::Result<()> {
     let heap = rt.alloc();
     let mut bytes = Vec::new(heap);
     rt.stdin().read_to_end(&mut bytes)?;
+    // A line that can't be read is answered; for want of memory the command fails.
     match read(heap, &bytes) {
         Ok(text) => {
             for answer in &text.answers {
                 rt.println(answer)?;
             }
         }
-        Err(ReadError::Refused(refusal)) => rt.println(Answer(Err(refusal)))?,
+        Err(ReadError::Unreadable { line }) => {
+            rt.println(Answer(Err(Refusal::Unreadable { line })))?;
+        }
         Err(ReadError::OutOfMemory(error)) => return Err(error.into()),
     }
     Ok(())
 }
 
+// Apart from `run`: in one function, which was tried, a long text takes a tenth longer.
 fn main(rt: HostRuntime) -> anyhow::Result<()> {
     run(&rt)
 }

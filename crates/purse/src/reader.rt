@@ -1,13 +1,12 @@
 // Reads a text of the statements `places` and `rows`, each with its numbers, and `price`; `#` starts a comment that ends with the line.
-ghost use Rattle.std.specs.Prelude.{◌≡◌, true, false, Err, IfOk, IfErr, OnOk};
+ghost use Rattle.std.specs.Prelude.{◌≡◌, true, false, Err, IfOk, OnOk};
 ghost use Rattle.std.specs.Option.{SomeIff};
 ghost use Rattle.std.specs.Str.Parse.{digits_value};
-ghost use Rattle.purse.specs.Words.{Number, Takes, ByWords, Read, IsOfLine};
+ghost use Rattle.purse.specs.Words.{Number, Takes, ByWords, Read};
 
 use crate::answer::Answer;
 use crate::errors::{ReadError, WordError};
 use pricing::quote;
-use program::Refusal;
 use std::alloc::Global;
 
 // What stands between words.
@@ -89,8 +88,7 @@ impl Text {
 
 // What the bytes say, or the first line that can't be read. Bytes that aren't UTF-8 become a character that no word has.
 pub(crate) fn read(heap: Global, bytes: &[u8]) -> Result<Text, ReadError>
-    ensures read { IfOk result Read }
-    ensures refused { IfErr result IsOfLine }
+    ensures { IfOk result Read }
 {
     let whole = String::from_utf8_lossy(heap, bytes)?;
     let mut text = Text {
@@ -100,11 +98,7 @@ pub(crate) fn read(heap: Global, bytes: &[u8]) -> Result<Text, ReadError>
         section: Section::Start,
     };
     for (line, words) in whole.as_str().lines().enumerate() {
-        match text.take_line(words) {
-            Ok(()) => {}
-            Err(WordError::Misfit) => return Err(ReadError::Refused(Refusal::Unreadable { line })),
-            Err(WordError::OutOfMemory(error)) => return Err(error.into()),
-        }
+        text.take_line(words).map_err(|error| error.at(line))?;
     }
     Ok(text)
 }

@@ -16,7 +16,7 @@ const UNREADABLE_1: &str =
 const UNREADABLE_2: &str =
     "turned away 5 at 1: line 2 has a word that is not places, rows, price or a number of places or rows below 4294967296\n";
 
-// A text, and the lines that answer it.
+// A text, and the lines that answer it. (Each file's table has the columns of its own tests.)
 #[derive(Drop)]
 struct Case<'a>(&'a [u8], &'a str);
 
@@ -29,7 +29,9 @@ fn check_texts(rt: &impl Abort, heap: Global, cases: &[Case]) -> Result<(), Fail
                     writeln!(lines, "{answer}")?;
                 }
             }
-            Err(ReadError::Refused(refusal)) => writeln!(lines, "{}", Answer(Err(refusal)))?,
+            Err(ReadError::Unreadable { line }) => {
+                writeln!(lines, "{}", Answer(Err(Refusal::Unreadable { line })))?;
+            }
             Err(ReadError::OutOfMemory(error)) => return Err(error.into()),
         }
         assert_eq!(rt; lines.as_str(), *want);

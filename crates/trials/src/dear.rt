@@ -6,7 +6,7 @@ use std::process::Abort;
 use std::test::Fail;
 
 // Rows that are put over the doubling ones, how many rows the program has, and what is answered: the price, or the row that is said where it is
-// too high.
+// too high. (Each file's table has the columns of its own tests.)
 #[derive(Drop)]
 struct Case<'a>(&'a [Instead], usize, Result<u64, usize>);
 
@@ -20,10 +20,10 @@ fn with(others: &[Instead]) -> Rows {
 }
 
 fn check_all(rt: &impl Abort, cases: &[Case]) {
-    for case in cases.iter() {
-        let rows = with(case.0);
-        let program = &rows[..4 * case.1.min(256)];
-        match case.2 {
+    for Case(others, count, want) in cases {
+        let rows = with(others);
+        let program = &rows[..4 * (*count).min(256)];
+        match *want {
             Ok(cost) => {
                 assert_eq!(rt; quote(program, 0), Ok(cost));
                 assert_eq!(rt; price(program, &[]), Done::Costs(cost));

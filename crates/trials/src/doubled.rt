@@ -1,6 +1,6 @@
 // Rows that each add the one before to itself: few rows, and a tree of more nodes than there are numbers.
 
-// The numbers of as many rows as a program may have. A case takes the first so many of them.
+// The numbers of as many rows as a program may have. A case takes the first so many of them: a `Vec` would say no more, and could fail.
 pub(crate) type Rows = [u32; 1024];
 
 // A row, and the numbers that are put there.

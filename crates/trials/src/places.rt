@@ -2,7 +2,7 @@
 use program::{Refusal, validate};
 use std::process::Abort;
 
-// A program, a count of places, and the refusal, if there is one.
+// A program, a count of places, and the refusal, if there is one. (Each file's table has the columns of its own tests.)
 #[derive(Drop)]
 struct Case<'a>(&'a [u32], usize, Option<Refusal>);
 
@@ -16,8 +16,8 @@ fn too_many(count: usize) -> Option<Refusal> {
 }
 
 fn check_all(rt: &impl Abort, cases: &[Case]) {
-    for case in cases.iter() {
-        assert_eq!(rt; validate(case.0, case.1).err(), case.2);
+    for Case(numbers, count, want) in cases {
+        assert_eq!(rt; validate(numbers, *count).err(), *want);
     }
 }
 

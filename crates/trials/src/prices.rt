@@ -30,7 +30,7 @@ fn sum_rows() -> [u32; 56] {
     numbers
 }
 
-// A program over one place, and its price.
+// A program over one place, and its price. (Each file's table has the columns of its own tests.)
 #[derive(Drop)]
 struct Case<'a>(&'a [u32], u64);
 
@@ -61,8 +61,8 @@ fn each_kind(rt: HostRuntime) {
         Case(&[0, 0, 0, 0, 2, 0, 0, 0, 8, 5, 1, 0], 14),
         Case(&[0, 0, 0, 0, 2, 0, 0, 0, 8, 5, 0, 1], 22),
     ];
-    for case in cases.iter() {
-        assert_eq!(rt; price(case.0, &[7]), Done::Costs(case.1));
+    for Case(numbers, cost) in &cases {
+        assert_eq!(rt; price(numbers, &[7]), Done::Costs(*cost));
     }
 }
 
@@ -96,11 +96,9 @@ fn refused(rt: HostRuntime) {
         ),
     ];
     let places = [0; 1025];
-    for case in cases.iter() {
-        assert_eq!(rt;
-            price(case.0, &places[..case.1.min(1025)]),
-            Done::Refused(case.2)
-        );
+    for RefusedCase(numbers, count, number) in &cases {
+        let lent = &places[..(*count).min(1025)];
+        assert_eq!(rt; price(numbers, lent), Done::Refused(*number));
     }
 }
 

@@ -5,7 +5,7 @@ use std::process::Abort;
 // The largest number that a row can hold.
 const MOST: u32 = 4294967295;
 
-// The numbers of a program, and its refusal, if there is one.
+// The numbers of a program, and its refusal, if there is one. (Each file's table has the columns of its own tests.)
 #[derive(Drop)]
 struct Case<'a>(&'a [u32], Option<Refusal>);
 
@@ -26,8 +26,8 @@ fn late(row: usize, named: usize) -> Option<Refusal> {
 }
 
 fn check_all(rt: &impl Abort, cases: &[Case]) {
-    for case in cases.iter() {
-        assert_eq!(rt; ValidProgram::try_from(case.0).err(), case.1);
+    for Case(numbers, want) in cases {
+        assert_eq!(rt; ValidProgram::try_from(*numbers).err(), *want);
     }
 }
 

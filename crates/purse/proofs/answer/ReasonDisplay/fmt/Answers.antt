@@ -5,6 +5,3 @@ returns-in-UnknownKind-clause-writes g c plain ok = rw c.in-UnknownKind.is (c.wr
 
 pub returns-in-TooManyPlaces-clause-writes : goal.returns-in-TooManyPlaces-clause-writes
 returns-in-TooManyPlaces-clause-writes g c plain ok = rw c.in-TooManyPlaces.is (c.write-in-TooManyPlaces.ensures.writes plain ok)
-
-pub returns-in-Unreadable-clause-writes : goal.returns-in-Unreadable-clause-writes
-returns-in-Unreadable-clause-writes g c plain ok = rw c.in-Unreadable.is (c.write-in-Unreadable.ensures.writes plain ok)
