@@ -67,7 +67,7 @@ pub(crate) enum Named {
 }
 
 impl Row {
-    // The kind of the row of that number.
+    // The kind of the row of that number. It is asked, here, below and in `check_row`, that the row is there, as it is of an index.
     pub(crate) fn kind(numbers: &[u32], row: usize) -> u32
         requires { 4 * row + 4 ≤ length numbers.now }
         ensures { result ≡ kind numbers.now row }

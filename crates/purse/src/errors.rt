@@ -1,4 +1,4 @@
-// Why a word of a text isn't taken, and why a text isn't read.
+// Why a word of a text isn't taken, and why a text isn't read: two enums, since a word doesn't know its line.
 ghost use Rattle.std.specs.Prelude.{◌≡◌, alloc_error};
 
 use std::alloc::{AllocError, AllocFailed};

@@ -20,6 +20,7 @@ const UNREADABLE_2: &str =
 #[derive(Drop)]
 struct Case<'a>(&'a [u8], &'a str);
 
+// Answers as `main` does, but into a text.
 fn check_texts(rt: &impl Abort, heap: Global, cases: &[Case]) -> Result<(), Fail> {
     for Case(text, want) in cases {
         let mut lines = String::new(heap);

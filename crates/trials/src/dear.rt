@@ -6,7 +6,7 @@ use std::process::Abort;
 use std::test::Fail;
 
 // Rows that are put over the doubling ones, how many rows the program has, and what is answered: the price, or the row that is said where it is
-// too high. (Each file's table has the columns of its own tests.)
+// too high. (Each file's table has the columns of its own tests, and its own `check_all`.)
 #[derive(Drop)]
 struct Case<'a>(&'a [Instead], usize, Result<u64, usize>);
 

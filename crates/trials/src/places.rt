@@ -2,7 +2,7 @@
 use program::{Refusal, validate};
 use std::process::Abort;
 
-// A program, a count of places, and the refusal, if there is one. (Each file's table has the columns of its own tests.)
+// A program, a count of places, and the refusal, if there is one. (Each file's table has the columns of its own tests, and its own `check_all`.)
 #[derive(Drop)]
 struct Case<'a>(&'a [u32], usize, Option<Refusal>);
 

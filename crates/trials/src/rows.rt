@@ -5,7 +5,7 @@ use std::process::Abort;
 // The largest number that a row can hold.
 const MOST: u32 = 4294967295;
 
-// The numbers of a program, and its refusal, if there is one. (Each file's table has the columns of its own tests.)
+// The numbers of a program, and its refusal, if there is one. (Each file's table has the columns of its own tests, and its own `check_all`.)
 #[derive(Drop)]
 struct Case<'a>(&'a [u32], Option<Refusal>);
 
