@@ -58,10 +58,12 @@ module _ (xs : List ℕ) (s : Shape xs) (ts : List Bool) (ps : List ℕ) (reache
       absurd (omega arith))
       (cases_lt k (row_count xs))
 
+  wide : length (zip ts ps) ≡ 256
+  wide = length-zip ts ps ∙ omega arith
+
   -- so the first such pair stands at the lowest such row
   pub found_dear : unwrap_or (position dear_pair (zip ts ps)) (row_count xs - 1) ≡ dear_row xs
   found_dear =
-      let wide : length (zip ts ps) ≡ 256 = length-zip ts ps ∙ omega arith in
       ⊎_elim
       (λ (none : position dear_pair (zip ts ps) ≡ None).
       ap (λ o. unwrap_or o (row_count xs - 1)) none
@@ -69,7 +71,7 @@ module _ (xs : List ℕ) (s : Shape xs) (ts : List Bool) (ps : List ℕ) (reache
       (λ (some : (k : ℕ) × (position dear_pair (zip ts ps) ≡ Some k)).
       let (k, e) = some in
       let (within, here, before) = position-Some dear_pair (zip ts ps) k (false, 0) e in
-      let row : k < row_count xs = dear_within k (omega arith) here in
+      let row : k < row_count xs = dear_within k (omega (arith, wide)) here in
       ap (λ o. unwrap_or o (row_count xs - 1)) e
       ∙ sym (lowest_is (is_dear xs) (row_count xs - 1) k (omega arith) (λ j l. sym (shown j (omega arith)) ∙ before j l) (λ l. sym (shown k row) ∙ here)))
       (cases_option (position dear_pair (zip ts ps)))
@@ -80,8 +82,7 @@ module _ (xs : List ℕ) (s : Shape xs) (ts : List Bool) (ps : List ℕ) (reache
           ⊎_elim (λ h. absurd (none_some _ (sym none ∙ cond-true (ltb (position_or_len dear_pair (zip ts ps)) (length (zip ts ps))) _ _ h))) (λ h. ltb-false _ _ h)
           (cases_Bool (ltb (position_or_len dear_pair (zip ts ps)) (length (zip ts ps))))
           in
-          let wide : length (zip ts ps) ≡ 256 = length-zip ts ps ∙ omega arith in
-          fails_before_first dear_pair (zip ts ps) j (false, 0) (omega arith)
+          fails_before_first dear_pair (zip ts ps) j (false, 0) (omega (arith, wide))
 
 -- the lowest row, where the last one is dear
 lowest_dear : (xs : List ℕ) → Valid xs → max_price < at_most (program_in xs) → LowestDear xs (dear_row xs)

@@ -63,24 +63,13 @@ module _ (xs : List ℕ) (v : Valid xs) where
         complete = λ j k a b h m. absurd (omega arith);
       }
 
-  -- one row more: it isn't marked, or what it names is marked now
+  -- one row more that is marked: what it names is marked now
   module _ (n : ℕ) (t : List Bool) (some : 0 < n) (q : Passed xs n t) where
     abbrev i : ℕ
     i = n - 1
 
     p : Passed xs (i + 1) t
     p = let e : n ≡ i + 1 = omega arith in subst (λ (m : ℕ). Passed xs m t) e q
-
-    pub pass_unmarked : get_or t i false ≡ false → Passed xs i t
-    pass_unmarked h =
-        record {
-          long = p.long;
-          sound = p.sound;
-          top = p.top;
-          complete =
-              λ j k a b g m.
-              ⊎_elim (λ e. absurd (both_ways (get_or t i false) h (subst (λ (x : ℕ). get_or t x false ≡ true) e g))) (λ ne. p.complete j k (above i j a ne) b g m) (cases_eq j i);
-        }
 
     pub pass_marked : (r : Row) → i < row_count xs → get_or t i false ≡ true → r ≡ row_in xs i → AllByRecursion (λ j. j < i) (named r) → Passed xs i (marked t (named r))
     pass_marked r l h e before =

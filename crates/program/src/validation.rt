@@ -121,7 +121,7 @@ fn check_marked(
 }
 
 // The places that reached rows name by themselves are there: the lowest row that names another is refused.
-#[tactic(auto, using(crate::proofs::Refusing::scans, crate::proofs::Placing::said_by_flag, std::proofs::lemmas::Grind::common_steps))]
+#[tactic(auto, using(crate::proofs::Refusing::scans))]
 fn check_reached(program: ValidProgram, places: usize) -> Result<(), Refusal>
     ensures { result ≡ unless (first_said (row_place_refusal program.entry.numbers.now places) (row_count program.entry.numbers.now)) tt }
 {

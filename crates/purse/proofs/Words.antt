@@ -2,7 +2,7 @@
 use Rattle.std.proofs.Common.{◌≡◌, ℕ, Bool, true, Ok, Err, Result, OnOk, List, [], ◌∷◌, ◌++◌, append_assoc, append-nil}
 use Rattle.std.proofs.lemmas.Bool.{false≢true}
 use Rattle.std.specs.Result.{is_ok}
-use Rattle.purse.specs.Words.{TakesEach, takes_none, takes_next, Takes, ByWords}
+use Rattle.purse.specs.Words.{TakesEach, takes_none, takes_next, Takes, starts_places, starts_rows, asks_price, adds_place, adds_row, stands_alone, is_no_word, ByWords}
 use Rattle.purse.specs.declared.reader.Text.{Text}
 
 -- what some words take to t, and more words on from there
@@ -23,3 +23,6 @@ by_one_more {t = t} {u} {w} {fits} h k = (h.0 ++ w ∷ [], takes_next h.0 t w u 
 pub of_ok : {T E P : Type 0} (r : Result T E) → is_ok r ≡ true → OnOk r P → P
 of_ok (Ok x) e p = p
 of_ok (Err x) e p = absurd (false≢true e)
+
+-- what a word does
+pub ruleset doings = (starts_places, starts_rows, asks_price, adds_place, adds_row, stands_alone, is_no_word)

@@ -42,6 +42,7 @@ fn number(word: &str) -> Option<u32>
 
 impl Text {
     // One word more: the name of a statement, which starts its numbers anew or is answered, or a number. One that is neither changes nothing.
+    #[tactic(auto, using(crate::proofs::Words::doings))]
     fn take_word(&mut self, word: &str) -> Result<(), WordError>
         ensures fits { OnOk result (Takes word.now self.old self.new true) }
         ensures misfits { result ≡ Err WordError.Misfit → Takes word.now self.old self.new false }
