@@ -1,5 +1,5 @@
 -- From the first refusal and the end of a run to what the entries answer. Assumes nothing.
-use Rattle.std.proofs.Common.{◌≡◌, ℕ, zero, suc, Bool, true, false, cond, eqb, List, length, Some, None, Option, Result, IsSome, ok_or, sym, rules, refl, ap, ◌∙◌, inl, inr, arith}
+use Rattle.std.proofs.Common.{◌≡◌, ℕ, zero, suc, ◌≤◌, Bool, true, false, cond, eqb, List, length, Some, None, Option, Result, IsSome, ok_or, sym, rules, refl, ap, ◌∙◌, inl, inr, arith}
 use Rattle.std.proofs.lemmas.Bool.{cond-false, ne_eqb}
 use Rattle.std.specs.Option.{option_or}
 use Rattle.semantics.specs.Program.{Program, Places}
@@ -23,11 +23,11 @@ use Rattle.interpreter.specs.declared.ran.Ran.{Ran}
 use Rattle.interpreter.specs.declared.ran.RunError.{RunError}
 use Rattle.interpreter.specs.declared.ran.RunError.TheVariants.{TooSmall}
 
--- a purse of the price isn't too small
-pub not_small : (p : Program) (t : Places) (g : ℕ) (s : List ℕ) (d : Option Ran) (s₁ : List ℕ) → g ≡ at_most p → Ends (run p t g) s (ok_or d TooSmall) s₁ → IsSome d
+-- a purse of the price or more isn't too small
+pub not_small : (p : Program) (t : Places) (g : ℕ) (s : List ℕ) (d : Option Ran) (s₁ : List ℕ) → at_most p ≤ g → Ends (run p t g) s (ok_or d TooSmall) s₁ → IsSome d
 not_small p t g s (Some d) s₁ price ends = search rules
 not_small p t g s None s₁ price ends =
-    let (x, u, k, is, _) = enough p t g (omega arith) in
+    let (x, u, k, is, _) = enough p t g price in
     let came_to = (rw is at ends).0 in
     cc
 
@@ -42,7 +42,7 @@ room_number true m n = refl
 room_number false m n = refl
 
 -- the first refusal of a run has the number that the rules give
-run_first_by_number : (xs s o : List ℕ) → answered (first_run_refusal xs (length s) (length o)) ≡ run_refusal xs s o
+pub run_first_by_number : (xs s o : List ℕ) → answered (first_run_refusal xs (length s) (length o)) ≡ run_refusal xs s o
 unfolding run_refusal
 run_first_by_number xs s o = rw (← first_by_number xs s, ← room_number _ (length o) (length s)) (either_number (first_refusal xs (length s)) _)
 
@@ -53,7 +53,7 @@ ends_say xs s o g r s₁ o₁ (came x t h) is ends room = (room, inl (x, t, h, i
 ends_say xs s o g r s₁ o₁ too_small is ends room = (room, inr (is, ap run_answer_by ends.0, ends.1))
 
 -- and so does what is executed
-executed_says : (f : Option Refusal) (xs s o : List ℕ) (g : ℕ) (r : Result Ran RunError) (s₁ o₁ : List ℕ) → Executes f xs s o g r s₁ o₁ → RunSays (answered f) xs s o g (run_answer_by r) s₁ o₁
+pub executed_says : (f : Option Refusal) (xs s o : List ℕ) (g : ℕ) (r : Result Ran RunError) (s₁ o₁ : List ℕ) → Executes f xs s o g r s₁ o₁ → RunSays (answered f) xs s o g (run_answer_by r) s₁ o₁
 unfolding RunSays
 executed_says None xs s o g r s₁ o₁ (ends, room) = ends_say xs s o g r s₁ o₁ _ refl ends room
 executed_says (Some e) xs s o g r s₁ o₁ (is, same, room) = let (k, number) = above_nought e in rw number (ap run_answer_by is ∙ ap done.Refused number, same, room)

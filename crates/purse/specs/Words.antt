@@ -1,7 +1,11 @@
 -- What one word of a text does. Assumes nothing.
 use Rattle.std.specs.Prelude.{◌≡◌, ℕ, ◌^◌, ◌<◌, Bool, true, false, List, [], ◌∷◌, ◌++◌, length, vec_items, vec_len, codes, ◌≢◌}
 use Rattle.std.specs.Str.Parse.{AllDigits, digits_value}
+use Rattle.program.specs.Refusal.{number_of}
+use Rattle.program.specs.declared.refusal.Refusal.TheVariants.{Unreadable}
 use Rattle.purse.specs.Answers.{answer_to}
+use Rattle.purse.specs.declared.errors.ReadError.{ReadError}
+use Rattle.purse.specs.declared.errors.ReadError.TheVariants.{Refused, OutOfMemory}
 use Rattle.purse.specs.declared.reader.Section.TheVariants.{Start, Places, Rows}
 use Rattle.purse.specs.declared.reader.Text.{Text}
 
@@ -38,3 +42,8 @@ pub record Read (t : Text) : Type 0 where
   pub no_rows : vec_items start.rows ≡ []
   pub no_answers : vec_items start.answers ≡ []
   pub words : ByWords start t true
+
+-- why a text isn't read: a line of it can't be, which is refused by number 5; or memory is wanting
+abbrev pub Unread : ReadError → Type 0
+Unread (Refused r) = (line : ℕ) × (r ≡ Unreadable line) × (number_of r ≡ 5)
+Unread (OutOfMemory error) = Unit {0}

@@ -1,6 +1,9 @@
 // Why a word of a text isn't taken, and why a text isn't read: two enums, since a word doesn't know its line.
 ghost use Rattle.std.specs.Prelude.{◌≡◌, alloc_error};
+ghost use Rattle.program.specs.declared.refusal.Refusal.TheVariants.{Unreadable};
+ghost use Rattle.purse.specs.Words.{Unread};
 
+use program::Refusal;
 use std::alloc::{AllocError, AllocFailed};
 
 // A word that doesn't fit where it stands, or no memory for what it says.
@@ -20,10 +23,10 @@ impl<T: Drop> From<AllocFailed<T>> for WordError {
     }
 }
 
-// A line, counted from 0, that has a word which doesn't fit, or no memory for what the text says.
+// A text that is turned away, or no memory for what it says.
 #[derive(Clone, Copy, Debug, PartialEq, Eq)]
 pub(crate) enum ReadError {
-    Unreadable { line: usize },
+    Refused(Refusal),
     OutOfMemory(AllocError),
 }
 
@@ -38,13 +41,14 @@ impl From<AllocError> for ReadError {
 }
 
 impl WordError {
-    // The same of the line that the word stands in.
+    // The same of the line that the word stands in, counted from 0: a word that doesn't fit turns its text away.
     pub(crate) fn at(self, line: usize) -> ReadError
-        ensures misfit { self ≡ WordError.Misfit → result ≡ ReadError.Unreadable line }
+        ensures misfit { self ≡ WordError.Misfit → result ≡ ReadError.Refused (Unreadable line) }
+        ensures unread { Unread result }
         ensures memory { (error : _) → self ≡ WordError.OutOfMemory error → result ≡ ReadError.OutOfMemory error }
     {
         match self {
-            WordError::Misfit => ReadError::Unreadable { line },
+            WordError::Misfit => ReadError::Refused(Refusal::Unreadable { line }),
             WordError::OutOfMemory(error) => ReadError::OutOfMemory(error),
         }
     }

@@ -9,7 +9,6 @@ mod tests;
 
 use answer::Answer;
 use errors::ReadError;
-use program::Refusal;
 use reader::read;
 use std::io::Read;
 
@@ -24,9 +23,7 @@ fn run(rt: &HostRuntime) -> anyhow::Result<()> {
                 rt.println(answer)?;
             }
         }
-        Err(ReadError::Unreadable { line }) => {
-            rt.println(Answer(Err(Refusal::Unreadable { line })))?;
-        }
+        Err(ReadError::Refused(refusal)) => rt.println(Answer(Err(refusal)))?,
         Err(ReadError::OutOfMemory(error)) => return Err(error.into()),
     }
     Ok(())

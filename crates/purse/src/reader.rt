@@ -1,8 +1,8 @@
 // Reads a text of the statements `places` and `rows`, each with its numbers, and `price`; `#` starts a comment that ends with the line.
-ghost use Rattle.std.specs.Prelude.{◌≡◌, true, false, Err, IfOk, OnOk};
+ghost use Rattle.std.specs.Prelude.{◌≡◌, true, false, Err, OnOk, MatchResult};
 ghost use Rattle.std.specs.Option.{SomeIff};
 ghost use Rattle.std.specs.Str.Parse.{digits_value};
-ghost use Rattle.purse.specs.Words.{Number, Takes, ByWords, Read};
+ghost use Rattle.purse.specs.Words.{Number, Takes, ByWords, Read, Unread};
 
 use crate::answer::Answer;
 use crate::errors::{ReadError, WordError};
@@ -87,9 +87,9 @@ impl Text {
     }
 }
 
-// What the bytes say, or the first line that can't be read. Bytes that aren't UTF-8 become a character that no word has.
+// What the bytes say, or refusal number 5 of the first line that can't be read. Bytes that aren't UTF-8 become a character that no word has.
 pub(crate) fn read(heap: Global, bytes: &[u8]) -> Result<Text, ReadError>
-    ensures { IfOk result Read }
+    ensures { MatchResult result Read Unread }
 {
     let whole = String::from_utf8_lossy(heap, bytes)?;
     let mut text = Text {

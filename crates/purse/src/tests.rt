@@ -30,9 +30,7 @@ fn check_texts(rt: &impl Abort, heap: Global, cases: &[Case]) -> Result<(), Fail
                     writeln!(lines, "{answer}")?;
                 }
             }
-            Err(ReadError::Unreadable { line }) => {
-                writeln!(lines, "{}", Answer(Err(Refusal::Unreadable { line })))?;
-            }
+            Err(ReadError::Refused(refusal)) => writeln!(lines, "{}", Answer(Err(refusal)))?,
             Err(ReadError::OutOfMemory(error)) => return Err(error.into()),
         }
         assert_eq!(rt; lines.as_str(), *want);
