@@ -46,7 +46,9 @@ fn limited_price(program: ValidProgram) -> Result<u64, Refusal>
     }
 }
 
-// What a program costs at most, or the first refusal that applies to it and to a count of places: number 1, 2 or 3.
+// What a program costs at most, or the first refusal that applies to it and to a count of places: number 1, 2 or 3. It is kept out of its callers' code:
+// within the loop of the command's reader it would make a line of blanks two fifths longer.
+#[inline(never)]
 pub fn quote(program: &[u32], places: usize) -> Result<u64, Refusal>
     ensures { result ≡ quoted program.now places }
 {
