@@ -9,7 +9,8 @@ ghost use Rattle.pricing.specs.Answers.{PriceSays, PriceNumbers};
 
 use crate::done::Done;
 use crate::limits::MAX_PRICE;
-use crate::table::{Prices, row_prices};
+use crate::table::{Prices, put_prices};
+use program::limits::MAX_ROWS;
 use program::{Refusal, Table, ValidProgram, reached_rows, validate};
 
 // The first row that is marked and whose price is above the limit.
@@ -34,7 +35,9 @@ fn dear_row(program: ValidProgram, prices: &Prices) -> usize
 fn limited_price(program: ValidProgram) -> Result<u64, Refusal>
     ensures { result ≡ unless (price_refusal program.entry.numbers.now) (at_most (program_in program.entry.numbers.now)) }
 {
-    let prices = row_prices(program);
+    // A table that `row_prices` answers would be copied once more.
+    let mut prices = [0; MAX_ROWS];
+    put_prices(program, &mut prices);
     let price = prices[program.last_row()];
     if price <= MAX_PRICE {
         Ok(price)

@@ -1,5 +1,5 @@
 // The price of each row by the rows that it names, in one pass over the rows, in a table of fixed size.
-ghost use Rattle.std.specs.Prelude.{◌≡◌, ℕ, ◌+◌, ◌*◌, ◌<◌, ◌≤◌, slice_index};
+ghost use Rattle.std.specs.Prelude.{◌≡◌, ℕ, ◌+◌, ◌*◌, ◌<◌, ◌≤◌, replicate, slice_index};
 ghost use Rattle.std.specs.List.{AllByRecursion};
 ghost use Rattle.program.specs.Row.{named};
 ghost use Rattle.program.specs.Rows.{row_count};
@@ -54,15 +54,23 @@ fn row_price(prices: &Prices, row: Row) -> u64
     }
 }
 
-// The price of each row, or the cap where it is higher. What a row names is earlier, so one pass does. It goes by number, since a row's price is made
-// from those before it in the same table.
+// Puts the price of each row, or the cap where it is higher, into a table without prices. What a row names is earlier, so one pass does. It goes by
+// number, since a row's price is made from those before it in the same table.
 #[tactic(auto, using(crate::proofs::Tabling::passes))]
+pub(crate) fn put_prices(program: ValidProgram, prices: &mut Prices)
+    requires { prices.old ≡ replicate 256 0 }
+    ensures { Priced program.entry.numbers.now (row_count program.entry.numbers.now) prices.new }
+{
+    for row in 0..program.row_count() {
+        prices[row] = row_price(prices, program.row_at(row));
+    }
+}
+
+// The price of each row, or the cap where it is higher.
 pub fn row_prices(program: ValidProgram) -> Prices
     ensures { Priced program.entry.numbers.now (row_count program.entry.numbers.now) result }
 {
     let mut prices = [0; MAX_ROWS];
-    for row in 0..program.row_count() {
-        prices[row] = row_price(&prices, program.row_at(row));
-    }
+    put_prices(program, &mut prices);
     prices
 }

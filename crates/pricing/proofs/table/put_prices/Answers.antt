@@ -1,6 +1,6 @@
 use Rattle.std.proofs.Common.{◌∙◌, arith, length-set}
 use Rattle.pricing.proofs.Tabling.{priced_more}
-use Rattle.pricing.proofs.table.row_prices.Goals as goal
+use Rattle.pricing.proofs.table.put_prices.Goals as goal
 
 pub loop-row-preserved : goal.loop-row-preserved
 loop-row-preserved c = (

@@ -1,6 +1,6 @@
 use Rattle.std.proofs.Common.{◌≡◌, length}
 use Rattle.pricing.specs.Table.{Priced}
-use Rattle.pricing.proofs.table.row_prices.Given as goal
+use Rattle.pricing.proofs.table.put_prices.Given as goal
 
 -- the rows so far are priced, in a table that is as long as at first
 abbrev pub invariant-loop-row : goal.invariant-loop-row
